@@ -1,0 +1,205 @@
+-- The bench cases A to L of document 01, proved together by one evaluation of the definitions. Case I's list is taken with a budget of 6 (docs/DECISIONS.md).
+-- Assumes nothing.
+use mathlib.Core.Path.{_≡_, refl}
+use Prim.Native.Nat.{ℕ, zero, suc, _+_, _-_, _/_, _%_, _^_}
+use mathlib.Core.Bool.{true, false}
+use mathlib.Core.List.{List, [], _∷_, _++_, map}
+use lib.ListN.{length}
+use lib.IntN.{ℤ, pos, negsuc}
+use lib.Ieee.{Float, fin, binary64, toBits}
+use Rattle.rounding.specs.Integers.{roundAway}
+use Rattle.definitions.specs.Table.{Table, plusZero, one}
+use Rattle.definitions.specs.Distance.{partial}
+use Rattle.definitions.specs.Admitted.{admitted}
+use Rattle.definitions.specs.Listing.{ListPoint}
+use Rattle.definitions.specs.Refusals.{outsideRadius, budgetExhausted, nonFinite, candidateOutside, budgetRange}
+use Rattle.definitions.specs.Calls.{Answer, found, refused, NearestPoint, ListAnswer, nearest, nearestSeeded, nearestMl, list}
+use Rattle.definitions.specs.JobText.{text, jobOutput}
+
+-- ---- the cases' numbers
+
+-- m / 2 ^ suc k
+abbrev over : ℕ → ℕ → Float
+over m k = fin false m (negsuc k)
+
+abbrev two : Float
+two = fin false 1 (pos 1)
+
+abbrev four : Float
+four = fin false 1 (pos 2)
+
+abbrev half : Float
+half = over 1 0
+
+abbrev quarter : Float
+quarter = over 1 1
+
+-- 1 + 2^-52
+abbrev aboveOne : Float
+aboveOne = over (2 ^ 52 + 1) 51
+
+-- ---- the cases' tables
+
+abbrev tableA : Table
+tableA = record { weights = []; mu = [] }
+
+abbrev tableB : Table
+tableB = record { weights = four ∷ []; mu = plusZero ∷ [] }
+
+abbrev targetB : List Float
+targetB = over 3 1 ∷ []
+
+abbrev tableE : Table
+tableE = record { weights = one ∷ []; mu = plusZero ∷ [] }
+
+abbrev targetE : List Float
+targetE = half ∷ []
+
+abbrev tableG : Table
+tableG = record { weights = one ∷ one ∷ []; mu = plusZero ∷ plusZero ∷ half ∷ plusZero ∷ [] }
+
+abbrev targetG : List Float
+targetG = quarter ∷ half ∷ []
+
+abbrev tableH : Table
+tableH = record { weights = over 1 50 ∷ four ∷ []; mu = plusZero ∷ plusZero ∷ plusZero ∷ plusZero ∷ [] }
+
+abbrev targetH : List Float
+targetH = half ∷ half ∷ []
+
+-- what the lent slices hold before a call
+abbrev out1 : List ℤ
+out1 = pos 7 ∷ []
+
+abbrev out2 : List ℤ
+out2 = pos 7 ∷ pos 7 ∷ []
+
+abbrev places : List Float
+places = one ∷ one ∷ one ∷ one ∷ one ∷ []
+
+abbrev places1 : List ℤ
+places1 = pos 7 ∷ pos 7 ∷ pos 7 ∷ pos 7 ∷ pos 7 ∷ []
+
+abbrev places2 : List ℤ
+places2 = places1 ++ places1
+
+abbrev at : ℕ → List ℤ → Answer NearestPoint
+at nodes zs = found (record { nodes = nodes; point = zs })
+
+abbrev listed : ℕ → List ListPoint → Answer ListAnswer
+listed nodes ps = found (record { nodes = nodes; points = ps })
+
+abbrev away : Float → List ℤ → ListPoint
+away d zs = record { distance = d; point = zs }
+
+-- ---- nearest, seeded and ml
+abbrev nearestCases : List (Answer NearestPoint)
+nearestCases =
+    nearest tableA [] [] plusZero 0
+    ∷ nearest tableB targetB out1 quarter 1
+    ∷ nearest tableB targetB out1 (over 1 2) 0
+    ∷ nearest tableB targetB out1 quarter 0
+    ∷ nearest tableE targetE out1 one 2
+    ∷ nearest tableE targetE out1 one 1
+    ∷ nearest tableG targetG out2 two 100
+    ∷ nearestMl tableG targetG out2 100
+    ∷ nearest tableH targetH out2 one 2
+    ∷ nearest tableH targetH out2 aboveOne 4
+    ∷ nearest tableE (fin false 1 (pos 52) ∷ []) out1 plusZero 1
+    ∷ nearest tableE (fin false (2 ^ 52 + 1) (pos 0) ∷ []) out1 plusZero 1
+    ∷ nearestSeeded tableE targetE out1 (pos 2 ∷ []) two 100
+    ∷ nearestSeeded tableE targetE out1 (pos 2 ∷ []) (over 9 1) 100
+    ∷ nearestSeeded tableE targetE out1 (pos 2 ∷ []) (over 9 1) (2 ^ 60 + 1)
+    ∷ []
+
+abbrev nearestAnswers : List (Answer NearestPoint)
+nearestAnswers =
+    at 0 []
+    ∷ at 1 (pos 1 ∷ [])
+    ∷ refused (outsideRadius (over 1 2))
+    ∷ refused (budgetExhausted 0 quarter)
+    ∷ at 2 (pos 0 ∷ [])
+    ∷ refused (budgetExhausted 1 quarter)
+    ∷ at 5 (pos 0 ∷ pos 1 ∷ [])
+    ∷ at 3 (pos 0 ∷ pos 1 ∷ [])
+    ∷ refused (outsideRadius one)
+    ∷ at 4 (pos 0 ∷ pos 1 ∷ [])
+    ∷ at 1 (pos (2 ^ 52) ∷ [])
+    ∷ refused (nonFinite 0)
+    ∷ refused (candidateOutside two)
+    ∷ at 4 (pos 0 ∷ [])
+    ∷ refused (budgetRange (2 ^ 60 + 1))
+    ∷ []
+
+-- ---- list
+abbrev listCases : List (Answer ListAnswer)
+listCases =
+    list tableA [] places [] plusZero 0
+    ∷ list tableE targetE places places1 one 1
+    ∷ list tableG targetG places places2 two 100
+    ∷ list tableH targetH places places2 aboveOne 6
+    ∷ list tableH targetH places places2 aboveOne 4
+    ∷ []
+
+abbrev listAnswers : List (Answer ListAnswer)
+listAnswers =
+    listed 0 (away plusZero [] ∷ [])
+    ∷ refused (budgetExhausted 1 one)
+    ∷ listed 7 (away quarter (pos 0 ∷ pos 1 ∷ []) ∷ away half (pos 0 ∷ pos 0 ∷ []) ∷ away half (pos 1 ∷ pos 0 ∷ []) ∷ away (over 5 1) (negsuc 0 ∷ pos 1 ∷ []) ∷ away (over 5 1) (pos 1 ∷ pos 1 ∷ []) ∷ [])
+    ∷ listed 6 (away one (pos 0 ∷ pos 0 ∷ []) ∷ away one (pos 0 ∷ pos 1 ∷ []) ∷ away one (pos 1 ∷ pos 0 ∷ []) ∷ away one (pos 1 ∷ pos 1 ∷ []) ∷ [])
+    ∷ refused (budgetExhausted 4 aboveOne)
+    ∷ []
+
+-- ---- H and I: four vectors at distance 1
+abbrev fourVectors : List (List ℤ)
+fourVectors = (pos 0 ∷ pos 0 ∷ []) ∷ (pos 0 ∷ pos 1 ∷ []) ∷ (pos 1 ∷ pos 0 ∷ []) ∷ (pos 1 ∷ pos 1 ∷ []) ∷ []
+
+-- ---- J
+abbrev roundCases : List ℤ
+roundCases = map roundAway (half ∷ fin true 1 (negsuc 0) ∷ fin true 5 (negsuc 0) ∷ fin false 1 (pos 63) ∷ [])
+
+abbrev roundAnswers : List ℤ
+roundAnswers = pos 1 ∷ negsuc 0 ∷ negsuc 2 ∷ pos (2 ^ 63 - 1) ∷ []
+
+-- ---- G as a job: radius 2 and budget 100
+unfoldable pub bytesOf : ℕ → ℕ → List ℕ
+bytesOf zero n = []
+bytesOf (suc size) n = n % 256 ∷ bytesOf size (n / 256)
+
+unfoldable pub joined : List ℕ → List ℕ
+unfolding bytesOf
+joined [] = []
+joined (n ∷ ns) = bytesOf 8 n ++ joined ns
+
+abbrev sectionOf : List ℕ → List ℕ
+sectionOf ns = bytesOf 4 (length ns) ++ joined ns
+
+abbrev bits : List Float → List ℕ
+bits xs = map (toBits binary64) xs
+
+abbrev jobG : List ℕ
+jobG = sectionOf (bits (one ∷ one ∷ [])) ++ sectionOf (bits (half ∷ [])) ++ sectionOf (bits targetG) ++ sectionOf (bits (two ∷ [])) ++ sectionOf (100 ∷ [])
+
+abbrev printedG : List ℕ
+printedG = text "nearest 5 0 1\nlist 7 5\n3FD0000000000000 0 1\n3FE0000000000000 0 0\n3FE0000000000000 1 0\n3FF4000000000000 -1 1\n3FF4000000000000 1 1\nratio fails\n"
+
+pub record Cases : Type 0 where
+  pub nearest-cases : nearestCases ≡ nearestAnswers
+  pub list-cases : listCases ≡ listAnswers
+  pub rounding-cases : roundCases ≡ roundAnswers
+  pub four-at-one : map (partial tableH targetH) fourVectors ≡ one ∷ one ∷ one ∷ one ∷ []
+  pub none-admitted : map (admitted tableH targetH one) fourVectors ≡ false ∷ false ∷ false ∷ false ∷ []
+  pub all-admitted : map (admitted tableH targetH aboveOne) fourVectors ≡ true ∷ true ∷ true ∷ true ∷ []
+  pub printed : jobOutput jobG ≡ printedG
+
+pub cases : Cases
+unfolding nearest list nearestSeeded nearestMl roundAway partial admitted jobOutput text toBits bytesOf joined
+cases = record {
+  nearest-cases = refl;
+  list-cases = refl;
+  rounding-cases = refl;
+  four-at-one = refl;
+  none-admitted = refl;
+  all-admitted = refl;
+  printed = refl;
+}

@@ -1,0 +1,196 @@
+-- Every public call: its checks in their order, its answer, and what each lent slice holds at exit. Definitions only.
+use Prim.Native.Nat.{ℕ}
+use mathlib.Core.Bool.{cond}
+use mathlib.Core.List.{List, [], _∷_, _++_, map}
+use lib.Dec.{ltb}
+use lib.ListN.{length, drop}
+use lib.IntN.{ℤ}
+use lib.Ieee.{Float}
+use Rattle.definitions.specs.Table.{Table, dimension, largestDimension}
+use Rattle.definitions.specs.Distance.{partial, distance}
+use Rattle.definitions.specs.Walk.{Walked, ended, exhausted}
+use Rattle.definitions.specs.Nearest.{Best, no-best, best, nearestWalk}
+use Rattle.definitions.specs.Listing.{ListPoint, listWalk, sorted}
+use Rattle.definitions.specs.Seeds.{rounded, nearestPlane, widened}
+use Rattle.definitions.specs.Refusals.{Refusal, budgetExhausted, outsideRadius, noSeed, listFull}
+use Rattle.definitions.specs.Checks.{Verdict, pass, refuse, firstRefusal, tableChecks, lengthCheck, planeLengthCheck, targetCheck, finiteCheck, radiusCheck, handedOn, budgetCheck, candidateLengthCheck, candidateDistanceCheck, candidateOutsideCheck, widenedRadiusCheck, listSizeCheck}
+
+pub data Answer (A : Type 0) : Type 0 where
+  found : A → Answer A
+  refused : Refusal → Answer A
+
+-- the answer, if the checks passed
+unfoldable pub after : {A : Type 0} → Verdict → Answer A → Answer A
+after (refuse e) answer = refused e
+after pass answer = answer
+
+-- ---- nearest, nearest_seeded, nearest_ml
+
+-- "The answer is point and node count"
+pub record NearestPoint : Type 0 where
+  pub nodes : ℕ
+  pub point : List ℤ
+
+-- how a call ends by its walk; `none` is the refusal if nothing was found
+unfoldable pub endOfNearest : Refusal → Walked Best → Answer NearestPoint
+endOfNearest none (exhausted nodes standing) = refused (budgetExhausted nodes standing)
+endOfNearest none (ended no-best standing nodes) = refused none
+endOfNearest none (ended (best zs) standing nodes) = found (record { nodes = nodes; point = zs })
+
+-- 2 to 5, then 6 (target, then output) and 7
+unfoldable pub searchChecks : Table → List Float → List ℤ → List Verdict
+unfolding tableChecks targetCheck
+searchChecks t target out =
+    tableChecks largestDimension t
+    ++ lengthCheck (dimension t) (length target) ∷ lengthCheck (dimension t) (length out) ∷ targetCheck target ∷ []
+
+-- and 8, 9
+unfoldable pub nearestChecks : Table → List Float → List ℤ → Float → ℕ → Verdict
+unfolding firstRefusal searchChecks radiusCheck
+nearestChecks t target out R budget = firstRefusal (searchChecks t target out ++ radiusCheck R ∷ budgetCheck budget ∷ [])
+
+-- `nearest`: "a plain nearest without one ends with 16"
+unfoldable pub nearest : Table → List Float → List ℤ → Float → ℕ → Answer NearestPoint
+unfolding after nearestChecks endOfNearest nearestWalk
+nearest t target out R budget =
+    after (nearestChecks t target out R budget)
+    (endOfNearest (outsideRadius (handedOn R)) (nearestWalk t target (handedOn R) budget))
+
+-- the walk of a seeded or ml search: "the widened one", and 17 if nothing was found
+unfoldable pub widenedSearch : Table → List Float → Float → ℕ → Answer NearestPoint
+unfolding widened endOfNearest nearestWalk
+widenedSearch t target R budget =
+    let radius = widened (dimension t) R in endOfNearest (noSeed radius) (nearestWalk t target radius budget)
+
+-- 2 to 9, then 10 to 13
+unfoldable pub seededChecks : Table → List Float → List ℤ → List ℤ → Float → ℕ → Verdict
+unfolding firstRefusal searchChecks radiusCheck candidateOutsideCheck partial widened
+seededChecks t target out candidate R budget =
+    firstRefusal
+    (searchChecks t target out
+    ++ radiusCheck R
+    ∷ budgetCheck budget
+    ∷ candidateLengthCheck (dimension t) (length candidate)
+    ∷ candidateDistanceCheck (distance t target candidate)
+    ∷ candidateOutsideCheck (handedOn R) (distance t target candidate)
+    ∷ widenedRadiusCheck (widened (dimension t) (handedOn R))
+    ∷ [])
+
+-- `nearest_seeded`
+unfoldable pub nearestSeeded : Table → List Float → List ℤ → List ℤ → Float → ℕ → Answer NearestPoint
+unfolding after seededChecks widenedSearch
+nearestSeeded t target out candidate R budget =
+    after (seededChecks t target out candidate R budget) (widenedSearch t target (handedOn R) budget)
+
+-- ml's candidate and radius: "the `nearest_plane` point as candidate and its distance as radius"
+unfoldable pub mlRadius : Table → List Float → Float
+unfolding nearestPlane partial
+mlRadius t target = distance t target (nearestPlane t target .point)
+
+-- 2 to 7 and 9, then 11 and 13
+unfoldable pub mlChecks : Table → List Float → List ℤ → ℕ → Verdict
+unfolding firstRefusal searchChecks mlRadius widened
+mlChecks t target out budget =
+    firstRefusal
+    (searchChecks t target out
+    ++ budgetCheck budget
+    ∷ candidateDistanceCheck (mlRadius t target)
+    ∷ widenedRadiusCheck (widened (dimension t) (mlRadius t target))
+    ∷ [])
+
+-- `nearest_ml`
+unfoldable pub nearestMl : Table → List Float → List ℤ → ℕ → Answer NearestPoint
+unfolding after mlChecks widenedSearch mlRadius
+nearestMl t target out budget = after (mlChecks t target out budget) (widenedSearch t target (mlRadius t target) budget)
+
+-- the output slice at exit of all three: the point, or what it held
+unfoldable pub nearestOutput : Answer NearestPoint → List ℤ → List ℤ
+nearestOutput (found a) out = a .point
+nearestOutput (refused e) out = out
+
+-- ---- list
+
+-- "The list and its count go out"
+pub record ListAnswer : Type 0 where
+  pub nodes : ℕ
+  pub points : List ListPoint
+
+-- "15 before 18": more points than places
+unfoldable pub endOfList : ℕ → Walked (List ListPoint) → Answer ListAnswer
+unfolding sorted
+endOfList places (exhausted nodes standing) = refused (budgetExhausted nodes standing)
+endOfList places (ended points standing nodes) =
+    cond (ltb places (length points)) (refused (listFull (length points))) (found (record { nodes = nodes; points = sorted points }))
+
+-- 2 to 5, 6 (target), 7, 8, 9, 14
+unfoldable pub listChecks : Table → List Float → List Float → List ℤ → Float → ℕ → Verdict
+unfolding firstRefusal tableChecks targetCheck radiusCheck
+listChecks t target distances points R budget =
+    firstRefusal
+    (tableChecks largestDimension t
+    ++ lengthCheck (dimension t) (length target)
+    ∷ targetCheck target
+    ∷ radiusCheck R
+    ∷ budgetCheck budget
+    ∷ listSizeCheck (dimension t) (length distances) (length points)
+    ∷ [])
+
+-- `list`
+unfoldable pub list : Table → List Float → List Float → List ℤ → Float → ℕ → Answer ListAnswer
+unfolding after listChecks endOfList listWalk
+list t target distances points R budget =
+    after (listChecks t target distances points R budget) (endOfList (length distances) (listWalk t target (handedOn R) budget))
+
+-- the first places hold what is written; "places after the last point keep their contents"
+abbrev pub written : {A : Type 0} → List A → List A → List A
+written new old = new ++ drop (length new) old
+
+-- the coordinates of the points, one after another
+unfoldable pub coordinates : List ListPoint → List ℤ
+coordinates [] = []
+coordinates (p ∷ ps) = p .point ++ coordinates ps
+
+-- the lent distances at exit
+unfoldable pub listDistances : Answer ListAnswer → List Float → List Float
+listDistances (found a) distances = written (map (λ (p : ListPoint). p .distance) (a .points)) distances
+listDistances (refused e) distances = distances
+
+-- the lent points at exit
+unfoldable pub listPoints : Answer ListAnswer → List ℤ → List ℤ
+unfolding coordinates
+listPoints (found a) points = written (coordinates (a .points)) points
+listPoints (refused e) points = points
+
+-- ---- round, nearest_plane
+
+-- `round`: 6 ("output against coefficients"), then 7 without the limit
+unfoldable pub round : List Float → List ℤ → Verdict
+unfolding firstRefusal finiteCheck
+round coefficients out = firstRefusal (lengthCheck (length coefficients) (length out) ∷ finiteCheck coefficients ∷ [])
+
+-- its output at exit
+unfoldable pub roundOutput : Verdict → List Float → List ℤ → List ℤ
+roundOutput pass coefficients out = rounded coefficients
+roundOutput (refuse e) coefficients out = out
+
+-- `nearest_plane`: 2 to 5, 6, then 7 without the limit
+unfoldable pub plane : Table → List Float → List ℤ → Verdict
+unfolding firstRefusal tableChecks finiteCheck
+plane t coefficients out =
+    firstRefusal
+    (tableChecks largestDimension t
+    ++ planeLengthCheck (dimension t) (length coefficients) (length out)
+    ∷ finiteCheck coefficients
+    ∷ [])
+
+-- its output at exit
+unfoldable pub planeOutput : Verdict → Table → List Float → List ℤ → List ℤ
+unfolding nearestPlane
+planeOutput pass t coefficients out = nearestPlane t coefficients .point
+planeOutput (refuse e) t coefficients out = out
+
+-- its coefficients at exit: "it leaves t - z in the coefficients"
+unfoldable pub planeCoefficients : Verdict → Table → List Float → List Float
+unfolding nearestPlane
+planeCoefficients pass t coefficients = nearestPlane t coefficients .left
+planeCoefficients (refuse e) t coefficients = coefficients

@@ -1,0 +1,125 @@
+-- The checks, each by itself: document 01, "The numbered refusals", 2 to 14. A call makes a list of them, and its first refusal wins. Definitions only.
+use Prim.Native.Nat.{ℕ, zero, suc, _*_, _^_}
+use mathlib.Core.Bool.{Bool, not, _&&_, _||_, cond}
+use mathlib.Core.List.{List, [], _∷_, _++_}
+use lib.Dec.{ltb, eqb}
+use lib.ListN.{length, getD}
+use lib.Ieee.{Float, nan, lt}
+use lib.Ieee.Scale.{finite}
+use Rattle.rounding.specs.Doubles.{magnitude}
+use Rattle.definitions.specs.Table.{Table, dimension, weight, coordinate, plusZero, coordLimit}
+use Rattle.definitions.specs.Refusals.{Refusal, tableSize, muNonFinite, muRange, weightRange, lengthMismatch, nonFinite, invalidRadius, budgetRange, candidateLength, candidateDistance, candidateOutside, widenedRadius, listSize}
+
+pub data Verdict : Type 0 where
+  pass : Verdict
+  refuse : Refusal → Verdict
+
+-- "refused under the first number of document 01 that fits it"
+unfoldable pub firstRefusal : List Verdict → Verdict
+firstRefusal [] = pass
+firstRefusal (refuse e ∷ verdicts) = refuse e
+firstRefusal (pass ∷ verdicts) = firstRefusal verdicts
+
+abbrev pub refuseIf : Bool → Refusal → Verdict
+refuseIf fault e = cond fault (refuse e) pass
+
+-- the first of these indices at which the fault is
+unfoldable pub refuseAtFirst : (ℕ → Bool) → (ℕ → Refusal) → List ℕ → Verdict
+refuseAtFirst fault e [] = pass
+refuseAtFirst fault e (i ∷ is) = let later = refuseAtFirst fault e is in cond (fault i) (refuse (e i)) later
+
+-- first, first + 1, .., so many
+unfoldable pub countFrom : ℕ → ℕ → List ℕ
+countFrom first zero = []
+countFrom first (suc k) = first ∷ countFrom (suc first) k
+
+-- "Only mu[j·n+i] with j > i is read": the indices of the rows below j, rising; row j has those from j·n to j·n+j-1
+unfoldable pub readIndices : ℕ → ℕ → List ℕ
+unfolding countFrom
+readIndices n zero = []
+readIndices n (suc j) = readIndices n j ++ countFrom (j * n) j
+
+abbrev pub notFinite : Float → Bool
+notFinite x = not (finite x)
+
+-- "magnitude above 2^52"
+abbrev pub beyondLimit : Float → Bool
+beyondLimit x = lt coordLimit (magnitude x)
+
+-- ---- the table
+
+-- 2: "n above 23 or mu not n·n long", with the largest n given
+abbrev pub tableSizeCheck : ℕ → Table → Verdict
+tableSizeCheck largest t = refuseIf (ltb largest (dimension t) || not (eqb (length (t .mu)) (dimension t * dimension t))) (tableSize (dimension t))
+
+-- 3
+abbrev pub muNonFiniteCheck : Table → Verdict
+muNonFiniteCheck t = refuseAtFirst (λ i. notFinite (getD (t .mu) i nan)) muNonFinite (readIndices (dimension t) (dimension t))
+
+-- 4: "magnitude above 2^52"
+abbrev pub muRangeCheck : Table → Verdict
+muRangeCheck t = refuseAtFirst (λ i. beyondLimit (getD (t .mu) i nan)) muRange (readIndices (dimension t) (dimension t))
+
+-- 5: "not finite or not above 0"
+abbrev pub weightRangeCheck : Table → Verdict
+weightRangeCheck t = refuseAtFirst (λ i. notFinite (weight t i) || not (lt plusZero (weight t i))) weightRange (countFrom 0 (dimension t))
+
+-- "Every library call on a table .. checks 2 to 5"
+unfoldable pub tableChecks : ℕ → Table → List Verdict
+unfolding refuseAtFirst readIndices countFrom lt
+tableChecks largest t = tableSizeCheck largest t ∷ muNonFiniteCheck t ∷ muRangeCheck t ∷ weightRangeCheck t ∷ []
+
+-- ---- the call
+
+-- 6: not as long as expected
+abbrev pub lengthCheck : ℕ → ℕ → Verdict
+lengthCheck expected found = refuseIf (not (eqb expected found)) (lengthMismatch expected found)
+
+-- 6 in `nearest_plane`: "reports the coefficients' length even when the output is the wrong one"
+abbrev pub planeLengthCheck : ℕ → ℕ → ℕ → Verdict
+planeLengthCheck n coefficients output =
+    refuseIf (not (eqb n coefficients && eqb n output)) (lengthMismatch n coefficients)
+
+-- 7: "a target not finite or .. above 2^52 in magnitude"
+unfoldable pub targetCheck : List Float → Verdict
+unfolding refuseAtFirst countFrom lt
+targetCheck target = refuseAtFirst (λ i. notFinite (coordinate target i) || beyondLimit (coordinate target i)) nonFinite (countFrom 0 (length target))
+
+-- 7 in `round` and `nearest_plane`: without the limit
+unfoldable pub finiteCheck : List Float → Verdict
+unfolding refuseAtFirst countFrom
+finiteCheck coefficients = refuseAtFirst (λ i. notFinite (coordinate coefficients i)) nonFinite (countFrom 0 (length coefficients))
+
+-- 8: "negative or not finite (radius); minus zero passes"
+unfoldable pub radiusCheck : Float → Verdict
+unfolding lt
+radiusCheck R = refuseIf (notFinite R || lt R plusZero) (invalidRadius R)
+
+-- the radius that check 8 hands on to the walk and to refusals 12, 15 and 16: the call's
+abbrev pub handedOn : Float → Float
+handedOn R = R
+
+-- 9: "above 2^60"
+abbrev pub budgetCheck : ℕ → Verdict
+budgetCheck budget = refuseIf (ltb (2 ^ 60) budget) (budgetRange budget)
+
+-- 10
+abbrev pub candidateLengthCheck : ℕ → ℕ → Verdict
+candidateLengthCheck expected found = refuseIf (not (eqb expected found)) (candidateLength expected found)
+
+-- 11: "overflow (total)"
+abbrev pub candidateDistanceCheck : Float → Verdict
+candidateDistanceCheck total = refuseIf (notFinite total) (candidateDistance total)
+
+-- 12: "distance above the radius (radius)"
+unfoldable pub candidateOutsideCheck : Float → Float → Verdict
+unfolding lt
+candidateOutsideCheck R d = refuseIf (lt R d) (candidateOutside R)
+
+-- 13: "not finite (it)"
+abbrev pub widenedRadiusCheck : Float → Verdict
+widenedRadiusCheck radius = refuseIf (notFinite radius) (widenedRadius radius)
+
+-- 14: "over 4,096 distances, or points not n times as many (distances' length)"
+abbrev pub listSizeCheck : ℕ → ℕ → ℕ → Verdict
+listSizeCheck n distances points = refuseIf (ltb 4096 distances || not (eqb points (n * distances))) (listSize distances)

@@ -1,0 +1,129 @@
+-- What the job prints, as bytes: document 01, "Job program". Definitions only.
+use Prim.Native.Nat.{ℕ, zero, suc, _+_, _*_, _/_, _%_}
+use Prim.Native.Char.{code}
+use Prim.Native.String.{String, [] as empty, _∷_ as _then_}
+use mathlib.Core.Bool.{Bool, true, false, cond}
+use mathlib.Core.List.{List, [], _∷_, _++_}
+use lib.Dec.{leb, ltb}
+use lib.ListN.{length, replicate}
+use lib.IntN.{ℤ, pos, negsuc}
+use lib.Ieee.{Float, binary64, fin, mul, le, toBits}
+use Rattle.definitions.specs.Table.{dimension, plusZero}
+use Rattle.definitions.specs.Listing.{ListPoint}
+use Rattle.definitions.specs.Refusals.{Refusal, jobLayout}
+use Rattle.definitions.specs.Calls.{Answer, found, refused, NearestPoint, ListAnswer, nearest, list}
+use Rattle.definitions.specs.JobLayout.{Job, Layout, job, layout-fault, jobOf}
+
+-- ---- characters and numbers
+
+-- the characters of a text, each one byte
+unfoldable pub text : String → List ℕ
+text empty = []
+text (_then_ c s) = code c ∷ text s
+
+abbrev pub newline : List ℕ
+newline = 10 ∷ []
+
+-- the digit d, from 0 to 15, in decimal or upper-case hexadecimal
+abbrev pub digit : ℕ → ℕ
+digit d = cond (ltb d 10) (48 + d) (55 + d)
+
+-- n in decimal before what follows; `short` says that n is below 10. The first argument makes the recursion plain:
+-- n itself is never used up, as n / 10 is smaller (law `decimal-value`).
+unfoldable pub decimalBefore : ℕ → Bool → ℕ → List ℕ → List ℕ
+decimalBefore zero short n rest = digit n ∷ rest
+decimalBefore (suc fuel) true n rest = digit n ∷ rest
+decimalBefore (suc fuel) false n rest = decimalBefore fuel (ltb (n / 10) 10) (n / 10) (digit (n % 10) ∷ rest)
+
+unfoldable pub decimal : ℕ → List ℕ
+unfolding decimalBefore
+decimal n = decimalBefore n (ltb n 10) n []
+
+unfoldable pub signedDecimal : ℤ → List ℕ
+unfolding decimal
+signedDecimal (pos n) = decimal n
+signedDecimal (negsuc n) = 45 ∷ decimal (suc n)
+
+-- so many "upper-case hexadecimal digits", before what follows
+unfoldable pub hexadecimalBefore : ℕ → ℕ → List ℕ → List ℕ
+hexadecimalBefore zero n rest = rest
+hexadecimalBefore (suc width) n rest = hexadecimalBefore width (n / 16) (digit (n % 16) ∷ rest)
+
+-- a double's 16 digits
+unfoldable pub hexadecimal : Float → List ℕ
+unfolding hexadecimalBefore toBits
+hexadecimal x = hexadecimalBefore 16 (toBits binary64 x) []
+
+-- each coordinate after a blank
+unfoldable pub pointText : List ℤ → List ℕ
+unfolding text signedDecimal
+pointText [] = []
+pointText (z ∷ zs) = text " " ++ signedDecimal z ++ pointText zs
+
+-- ---- refusals
+
+-- "number 1 is layout, 2 to 5 table, 6 to 14 call, 15 to 18 search"
+unfoldable pub group : ℕ → List ℕ
+unfolding text
+group number = cond (leb number 1) (text "layout") (cond (leb number 5) (text "table") (cond (leb number 14) (text "call") (text "search")))
+
+-- "Refusal lines read `nearest refused 15 search`"
+unfoldable pub refusalLine : String → Refusal → List ℕ
+unfolding text decimal group
+refusalLine word e = text word ++ text " refused " ++ decimal (e .number) ++ text " " ++ group (e .number) ++ newline
+
+-- ---- the lines
+
+-- "nearest (count, point)"
+unfoldable pub nearestLine : Answer NearestPoint → List ℕ
+unfolding text decimal pointText refusalLine
+nearestLine (found a) = text "nearest " ++ decimal (a .nodes) ++ pointText (a .point) ++ newline
+nearestLine (refused e) = refusalLine "nearest" e
+
+-- "each point after its distance's 16 upper-case hexadecimal digits"
+unfoldable pub listedLines : List ListPoint → List ℕ
+unfolding hexadecimal pointText
+listedLines [] = []
+listedLines (p ∷ ps) = hexadecimal (p .distance) ++ pointText (p .point) ++ newline ++ listedLines ps
+
+-- "list (nodes, points)", by the pattern of case G: the nodes, then the number of points
+unfoldable pub listLines : Answer ListAnswer → List ℕ
+unfolding text decimal listedLines refusalLine
+listLines (found a) = text "list " ++ decimal (a .nodes) ++ text " " ++ decimal (length (a .points)) ++ newline ++ listedLines (a .points)
+listLines (refused e) = refusalLine "list" e
+
+-- "two or more points, holds if d2 ≥ 3·d1 (product rounded once), else fails; one point, holds; no point .., none"
+unfoldable pub ratio : List ListPoint → String
+unfolding mul le
+ratio [] = "none"
+ratio (p ∷ []) = "holds"
+ratio (p ∷ q ∷ ps) = cond (le (mul binary64 (fin false 3 (pos 0)) (p .distance)) (q .distance)) "holds" "fails"
+
+-- "no list, none"
+unfoldable pub ratioLine : Answer ListAnswer → List ℕ
+unfolding text ratio
+ratioLine (found a) = text "ratio " ++ text (ratio (a .points)) ++ newline
+ratioLine (refused e) = text "ratio none" ++ newline
+
+-- ---- the job
+
+-- "The program lends the list 256 places"
+abbrev pub jobPlaces : ℕ
+jobPlaces = 256
+
+abbrev pub jobNearest : Job → Answer NearestPoint
+jobNearest j = nearest (j .table) (j .target) (replicate (dimension (j .table)) (pos 0)) (j .radius) (j .budget)
+
+abbrev pub jobList : Job → Answer ListAnswer
+jobList j = list (j .table) (j .target) (replicate jobPlaces plusZero) (replicate (dimension (j .table) * jobPlaces) (pos 0)) (j .radius) (j .budget)
+
+-- "prints nearest .., list .., then the ratio"; "Number 1 prints only `job refused 1 layout`"
+unfoldable pub jobText : Layout → List ℕ
+unfolding nearest list nearestLine listLines ratioLine refusalLine
+jobText (layout-fault offset) = refusalLine "job" (jobLayout offset)
+jobText (job j) = nearestLine (jobNearest j) ++ listLines (jobList j) ++ ratioLine (jobList j)
+
+-- what the program writes for what it reads
+unfoldable pub jobOutput : List ℕ → List ℕ
+unfolding jobText jobOf
+jobOutput input = jobText (jobOf input)

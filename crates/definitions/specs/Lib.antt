@@ -1,0 +1,14 @@
+-- Document 01 as definitions, in its order.
+pub mod Table
+pub mod Distance
+pub mod Admitted
+pub mod Zigzag
+pub mod Walk
+pub mod Nearest
+pub mod Listing
+pub mod Seeds
+pub mod Refusals
+pub mod Checks
+pub mod Calls
+pub mod JobLayout
+pub mod JobText

@@ -1,0 +1,29 @@
+-- `triangular_distance` tells a finite sum from one that overflowed. Assumes nothing.
+use mathlib.Core.Path.{ap, sym, _∙_}
+use mathlib.Core.Bool.{Bool, cond}
+use borrow.Author.Needs.{needs}
+use Rattle.distance.specs.declared.Distance.the-variants.{Finite, Overflow}
+use Rattle.distance.specs.View.{distanceOf}
+use Rattle.distance.proofs.triangular_distance.Statement.{statement}
+use Rattle.distance.proofs.triangular_distance.Tie as tie
+
+total-requires : tie.Need-total-requires
+total-requires c κs = search needs
+
+is-finite-requires : tie.Need-is-finite-requires
+is-finite-requires c κs = search needs
+
+returns : tie.Need-returns
+returns c =
+    let s = c .before .before .total in
+    ap (λ (b : Bool). cond b (Finite (s .result)) (Overflow (s .result))) (sym (c .if1 .taken) ∙ c .before .is-finite .ensures)
+    ∙ ap distanceOf (s .ensures)
+
+returns-2 : tie.Need-returns-2
+returns-2 c =
+    let s = c .before .before .total in
+    ap (λ (b : Bool). cond b (Finite (s .result)) (Overflow (s .result))) (sym (c .if1 .left) ∙ c .before .is-finite .ensures)
+    ∙ ap distanceOf (s .ensures)
+
+pub triangular-distance-spec : {M : Type 1} → statement M
+triangular-distance-spec = tie.close (tie.spec total-requires is-finite-requires returns returns-2)

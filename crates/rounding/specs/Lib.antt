@@ -1,0 +1,4 @@
+-- What the contracts cite.
+pub mod Integers
+pub mod Doubles
+pub mod Ordering

@@ -1,0 +1,140 @@
+// Doubles and signed 64-bit integers: rounding from the one to the other, and what Rust's `is_finite`, `abs`, `max`
+// and `total_cmp` give.
+ghost use mathlib.Core.Path.{_≡_};
+ghost use mathlib.Core.Bool.{false};
+ghost use Prim.Native.Nat.{_<_, _^_};
+ghost use lib.Dec.{T};
+ghost use lib.IntN.{pos, negℤ};
+ghost use lib.Ieee.{fin, lt, neg};
+ghost use lib.Ieee.Scale.{finite};
+ghost use Rattle.rounding.specs.Integers.{roundAway, toDouble};
+ghost use Rattle.rounding.specs.Doubles as D;
+ghost use Rattle.rounding.specs.Ordering.{orderingOf};
+
+// The nearest integer to an x above 0 and below 2^63, a half upward. The sum x + x is exact, so the halves that it
+// counts are those of x.
+fn rounded(x: f64) -> u64
+    requires { ⌜ T (lt (fin false 0 (pos 0)) x) ⌝ }
+    requires { ⌜ T (lt x (fin false 1 (pos 63))) ⌝ }
+    ensures { λ r. ⌜ (r < 2 ^ 63) × (pos r ≡ roundAway x) × (negℤ (pos r) ≡ roundAway (neg x)) ⌝ }
+{
+    let halves = std::num::truncating_f64_to_u64(x + x);
+    halves / 2 + halves % 2
+}
+
+// The nearest integer, halves away from zero. From 2^63 up, plus infinity too, it is i64::MAX; from -2^63 down,
+// minus infinity too, i64::MIN; a NaN and either zero give 0.
+pub fn round_away(v: f64) -> i64
+    ensures { λ r. ⌜ r ≡ roundAway v ⌝ }
+{
+    if v > 0.0 {
+        if v < 9223372036854775808.0 {
+            return rounded(v) as i64;
+        }
+        return i64::MAX;
+    }
+    if v < 0.0 {
+        let w = -v;
+        if w < 9223372036854775808.0 {
+            return 0 - (rounded(w) as i64);
+        }
+        return i64::MIN;
+    }
+    0
+}
+
+// The double nearest to n, ties to the even one: exact up to 2^53 either way, rounded beyond. 0 gives plus zero.
+pub fn to_double(n: i64) -> f64
+    ensures { λ r. ⌜ r ≡ toDouble n ⌝ }
+{
+    if n >= -9007199254740992 {
+        if n <= 9007199254740992 {
+            return n as f64;
+        }
+    }
+    std::num::nearest_i64_to_f64(n)
+}
+
+// Whether x is finite: false of the two infinities and of a NaN, true of all else.
+pub fn is_finite(x: f64) -> bool
+    ensures { λ r. ⌜ r ≡ finite x ⌝ }
+{
+    x - x == 0.0
+}
+
+// x without its sign: minus zero gives plus zero, minus infinity plus infinity, and a NaN a NaN.
+pub fn magnitude(x: f64) -> f64
+    ensures { λ r. ⌜ r ≡ D.magnitude x ⌝ }
+{
+    if x == 0.0 {
+        return 0.0;
+    }
+    if x < 0.0 {
+        return -x;
+    }
+    x
+}
+
+// The larger of x and y; x where they are equal, as plus and minus zero are. Where one of them is a NaN it gives the
+// other one, and so a NaN only of two.
+pub fn max(x: f64, y: f64) -> f64
+    ensures { λ r. ⌜ r ≡ D.larger x y ⌝ }
+{
+    if x < y {
+        return y;
+    }
+    if x != x {
+        return y;
+    }
+    x
+}
+
+// Whether the sign of x is minus, as minus zero's is; false of a NaN. A zero's sign shows in its reciprocal.
+fn negative(x: f64) -> bool
+    ensures { λ r. ⌜ r ≡ D.negative x ⌝ }
+{
+    if x == 0.0 {
+        return 1.0 / x < 0.0;
+    }
+    x < 0.0
+}
+
+// Whether x stands before y in `total_cmp`'s order: by value, minus zero before plus zero, and a NaN after every
+// number. No x stands before itself.
+pub fn precedes(x: f64, y: f64) -> bool
+    ensures { λ r. ⌜ r ≡ D.precedes x y ⌝ }
+{
+    if x < y {
+        return true;
+    }
+    if y != y {
+        return x == x;
+    }
+    if x == y {
+        if negative(x) {
+            return !negative(y);
+        }
+    }
+    false
+}
+
+// The answers of `total_cmp`.
+pub enum Ordering {
+    Less,
+    Equal,
+    Greater,
+}
+
+// How x stands to y: by value, minus zero below plus zero, and a NaN above every number and equal to a NaN. It is
+// Rust's `total_cmp` but for the signs and payloads of NaNs, which are not seen.
+pub fn total_cmp(x: f64, y: f64) -> Ordering
+    ensures { λ r. ⌜ r ≡ orderingOf (D.totalCmp x y) ⌝ }
+{
+    if precedes(x, y) {
+        return Ordering::Less;
+    }
+    if precedes(y, x) {
+        return Ordering::Greater;
+    }
+    Ordering::Equal
+}
