@@ -46,6 +46,14 @@ notFinite x = not (finite x)
 abbrev pub beyondLimit : Float → Bool
 beyondLimit x = lt coordLimit (magnitude x)
 
+-- 5: "not finite or not above 0"
+abbrev pub weightFault : Float → Bool
+weightFault w = notFinite w || not (lt plusZero w)
+
+-- 7: "not finite or .. above 2^52 in magnitude"
+abbrev pub targetFault : Float → Bool
+targetFault x = notFinite x || beyondLimit x
+
 -- ---- the table
 
 -- 2: "n above 23 or mu not n·n long", with the largest n given
@@ -60,9 +68,9 @@ muNonFiniteCheck t = refuseAtFirst (λ i. notFinite (getD (t .mu) i nan)) muNonF
 abbrev pub muRangeCheck : Table → Verdict
 muRangeCheck t = refuseAtFirst (λ i. beyondLimit (getD (t .mu) i nan)) muRange (readIndices (dimension t) (dimension t))
 
--- 5: "not finite or not above 0"
+-- 5
 abbrev pub weightRangeCheck : Table → Verdict
-weightRangeCheck t = refuseAtFirst (λ i. notFinite (weight t i) || not (lt plusZero (weight t i))) weightRange (countFrom 0 (dimension t))
+weightRangeCheck t = refuseAtFirst (λ i. weightFault (weight t i)) weightRange (countFrom 0 (dimension t))
 
 -- "Every library call on a table .. checks 2 to 5"
 unfoldable pub tableChecks : ℕ → Table → List Verdict
@@ -80,10 +88,10 @@ abbrev pub planeLengthCheck : ℕ → ℕ → ℕ → Verdict
 planeLengthCheck n coefficients output =
     refuseIf (not (eqb n coefficients && eqb n output)) (lengthMismatch n coefficients)
 
--- 7: "a target not finite or .. above 2^52 in magnitude"
+-- 7
 unfoldable pub targetCheck : List Float → Verdict
 unfolding refuseAtFirst countFrom lt
-targetCheck target = refuseAtFirst (λ i. notFinite (coordinate target i) || beyondLimit (coordinate target i)) nonFinite (countFrom 0 (length target))
+targetCheck target = refuseAtFirst (λ i. targetFault (coordinate target i)) nonFinite (countFrom 0 (length target))
 
 -- 7 in `round` and `nearest_plane`: without the limit
 unfoldable pub finiteCheck : List Float → Verdict

@@ -11,6 +11,9 @@ pub record Table : Type 0 where
   pub weights : List Float
   pub mu : List Float
 
+abbrev pub table : List Float → List Float → Table
+table weights mu = record { weights = weights; mu = mu }
+
 -- n
 abbrev pub dimension : Table → ℕ
 dimension t = length (t .weights)

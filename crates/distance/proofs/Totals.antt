@@ -1,5 +1,5 @@
 -- The sum of the terms downward, a level at a time. Assumes nothing.
-use mathlib.Core.Path.{_≡_, refl, ap, sym, _∙_}
+use mathlib.Core.Path.{_≡_, ap, sym, _∙_}
 use mathlib.Core.List.{List, _∷_}
 use Prim.Native.Nat.{ℕ, suc, _+_, _<_, _≤_}
 use native.Mathlib.Omega.{arith}
@@ -8,17 +8,14 @@ use lib.Seq.{length-take-le}
 use lib.IntN.{ℤ, pos}
 use lib.Ieee.{Float, binary64, add, sub, mul, ofBits}
 use Rattle.rounding.specs.Integers.{toDouble}
-use Rattle.definitions.specs.Table.{Table, dimension, weight, coordinate, plusZero}
+use Rattle.definitions.specs.Table.{Table, dimension, weight, coordinate}
 use Rattle.definitions.specs.Distance.{center, term, partial}
 use Rattle.definitions.specs.Seeds.{alongFrom}
+use Rattle.rounding.proofs.Constants.{zero-is}
 use Rattle.definitions.proofs.Distances.{term-is, partial-nil, partial-step}
 use Rattle.distance.specs.Residuals.{places, residuals}
 use Rattle.distance.proofs.Places.{places-cons, places-none}
 use Rattle.distance.proofs.Centers.{residuals-nil, center-below, residuals-below}
-
-zero-literal : ofBits binary64 0 ≡ plusZero
-unfolding ofBits
-zero-literal = refl
 
 module _ (t : Table) (target : List Float) (point : List ℤ) (sized : dimension t ≤ length point) where
   -- nothing is summed yet
@@ -28,7 +25,7 @@ module _ (t : Table) (target : List Float) (point : List ℤ) (sized : dimension
       ∙ sym (ap (residuals target (dimension t)) (places-none (dimension t) point sized (dimension t) (omega arith)) ∙ residuals-nil target (dimension t))
 
   pub sum-start : ofBits binary64 0 ≡ partial t target (places (dimension t) (dimension t) point)
-  sum-start = zero-literal ∙ sym (ap (partial t target) (places-none (dimension t) point sized (dimension t) (omega arith)) ∙ partial-nil t target)
+  sum-start = zero-is ∙ sym (ap (partial t target) (places-none (dimension t) point sized (dimension t) (omega arith)) ∙ partial-nil t target)
 
   module _ (rest : List Float) (fits : dimension t ≤ length rest) (depth level : ℕ) (deep : depth ≡ level + 1) (low : level < dimension t) (beside : places (dimension t) depth rest ≡ residuals target depth (places (dimension t) depth point)) (d : Float) (converted : d ≡ toDouble (getD point level (pos 0))) where
     here : places (dimension t) level point ≡ getD point level (pos 0) ∷ places (dimension t) depth point

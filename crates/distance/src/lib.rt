@@ -8,7 +8,8 @@ ghost use lib.Ieee.{binary64, sub, mul};
 ghost use Rattle.definitions.specs.Distance as D;
 ghost use Rattle.definitions.specs.Seeds.{alongFrom};
 ghost use Rattle.distance.specs.Residuals.{places};
-ghost use Rattle.distance.specs.View.{table, distanceOf};
+ghost use Rattle.definitions.specs.Table.{table};
+ghost use Rattle.distance.specs.View.{distanceOf};
 use rounding::is_finite;
 use rounding::to_double;
 

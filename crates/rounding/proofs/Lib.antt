@@ -21,3 +21,4 @@ pub mod ExactIntegers
 pub mod Doubling
 pub mod Saturation
 pub mod Comparison
+pub mod Constants

@@ -55,6 +55,23 @@ pub fn to_double(n: i64) -> f64
     std::num::nearest_i64_to_f64(n)
 }
 
+// An integer with its double.
+pub struct RoundedAway {
+    pub integer: i64,
+    pub double: f64,
+}
+
+// `round_away` of v, and `to_double` of that.
+pub fn rounded_away(v: f64) -> RoundedAway
+    ensures { λ r. ⌜ (r .integer ≡ roundAway v) × (r .double ≡ toDouble (roundAway v)) ⌝ }
+{
+    let integer = round_away(v);
+    RoundedAway {
+        integer,
+        double: to_double(integer),
+    }
+}
+
 // Whether x is finite: false of the two infinities and of a NaN, true of all else.
 pub fn is_finite(x: f64) -> bool
     ensures { λ r. ⌜ r ≡ finite x ⌝ }

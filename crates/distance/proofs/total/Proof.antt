@@ -10,7 +10,7 @@ use mir.ValLaws.{toZ-ofZ}
 use borrow.Author.Needs.{needs}
 use Rattle.definitions.specs.Distance.{center, term, partial}
 use Rattle.distance.specs.Residuals.{places, residuals}
-use Rattle.distance.specs.View.{table}
+use Rattle.definitions.specs.Table.{table}
 use Rattle.rounding.specs.Integers.{toDouble}
 use Rattle.distance.proofs.Totals.{residuals-start, sum-start, residuals-turn, sum-turn}
 use Rattle.distance.proofs.total.Statement.{statement}

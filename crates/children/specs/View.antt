@@ -1,0 +1,60 @@
+-- What the code's values stand for. Definitions only.
+use mathlib.Core.Bool.{_&&_, cond}
+use lib.IntN.{ℤ}
+use lib.Ieee.{Float}
+use Rattle.rounding.specs.Integers.{toDouble, isI64}
+use Rattle.definitions.specs.Distance as D
+use Rattle.definitions.specs.Zigzag.{Zigzag, Start, open-level, no-children, Next, child, none, passesTest}
+use Rattle.children.specs.declared.Children.{Children}
+use Rattle.children.specs.declared.Trial.{Trial}
+use Rattle.children.specs.declared.Level.{Level}
+use Rattle.children.specs.declared.Level.the-variants.{Open, Closed}
+use Rattle.children.specs.declared.Child.{Child}
+use Rattle.children.specs.declared.Child.the-variants.{At, End}
+use Rattle.children.specs.declared.Moved.{Moved}
+use Rattle.children.specs.declared.Moved.the-variants.{In, Out}
+use Rattle.children.specs.declared.Tested.{Tested}
+use Rattle.children.specs.declared.Tested.the-variants.{Passed, Failed}
+
+-- a generator of the code, and back
+abbrev pub zigzag : Children → Zigzag
+zigzag c = record {
+  center = c .center;
+  remaining = c .remaining;
+  weight = c .weight;
+  nearest = c .nearest;
+  step = c .step;
+  emittedNearest = c .«emitted_nearest»;
+  positiveDone = c .«positive_done»;
+  negativeDone = c .«negative_done»;
+}
+
+abbrev pub children : Zigzag → Children
+children g = record {
+  center = g .center;
+  remaining = g .remaining;
+  weight = g .weight;
+  nearest = g .nearest;
+  step = g .step;
+  «emitted_nearest» = g .emittedNearest;
+  «positive_done» = g .positiveDone;
+  «negative_done» = g .negativeDone;
+}
+
+abbrev pub trialOf : Float → Float → ℤ → Trial
+trialOf w c z = record { z = z; value = toDouble z; term = D.term w c z }
+
+abbrev pub levelOf : Start → Level
+levelOf (open-level g) = Open (children g)
+levelOf no-children = Closed
+
+abbrev pub childOf : Next → Child
+childOf (child z g) = At (trialOf (g .weight) (g .center) z) (children g)
+childOf (none g) = End
+
+-- a candidate by itself, and against what remained
+abbrev pub movedOf : ℤ → Moved
+movedOf z = cond (isI64 z) (In z) Out
+
+abbrev pub testedOf : Zigzag → ℤ → Tested
+testedOf g z = cond (isI64 z && passesTest g z) (Passed (trialOf (g .weight) (g .center) z)) Failed

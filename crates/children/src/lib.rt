@@ -1,0 +1,191 @@
+// The integers of a level, in zigzag order from the centre outward.
+ghost use mathlib.Core.Path.{_≡_};
+ghost use mathlib.Core.Bool.{cond, Bool·beq};
+ghost use Prim.Native.Nat.{_<_, _^_, _%_};
+ghost use lib.Dec.{eqb};
+ghost use lib.IntN.{pos, _+ℤ_, _-ℤ_};
+ghost use Rattle.definitions.specs.Zigzag as Z;
+ghost use Rattle.children.specs.View.{zigzag, trialOf, levelOf, childOf, movedOf, testedOf};
+use distance::term;
+use rounding::rounded_away;
+use rounding::to_double;
+
+// The state of a level's generator: the centre, what remained of the radius on entry and the weight, the integer
+// nearest to the centre, the number of the next step, and what is over already.
+pub struct Children {
+    pub center: f64,
+    pub remaining: f64,
+    pub weight: f64,
+    pub nearest: i64,
+    pub step: u64,
+    pub emitted_nearest: bool,
+    pub positive_done: bool,
+    pub negative_done: bool,
+}
+
+// An integer with its double and its term.
+pub struct Trial {
+    pub z: i64,
+    pub value: f64,
+    pub term: f64,
+}
+
+// What the making of a generator answers: a level has children, or none.
+pub enum Level {
+    Open(Children),
+    Closed,
+}
+
+// A child with the generator after it, or the end.
+pub enum Child {
+    At(Trial, Children),
+    End,
+}
+
+// nearest + or - magnitude, where it is an i64.
+enum Moved {
+    In(i64),
+    Out,
+}
+
+// A candidate that passes the test, or one that closes its direction.
+enum Tested {
+    Passed(Trial),
+    Failed,
+}
+
+// A step's candidate.
+fn candidate(nearest: i64, magnitude: u64, positive: bool) -> Moved
+    requires { ⌜ magnitude < 2 ^ 63 ⌝ }
+    ensures { λ r. ⌜ r ≡ movedOf (cond positive (nearest +ℤ pos magnitude) (nearest -ℤ pos magnitude)) ⌝ }
+{
+    let m = magnitude as i64;
+    if positive {
+        if nearest > 9223372036854775807 - m {
+            return Moved::Out;
+        }
+        return Moved::In(nearest + m);
+    }
+    if nearest < -9223372036854775808 + m {
+        return Moved::Out;
+    }
+    Moved::In(nearest - m)
+}
+
+// The integer z with its double, and its term at a level of that weight and centre.
+fn trial_of(weight: f64, center: f64, z: i64) -> Trial
+    ensures { λ r. ⌜ r ≡ trialOf weight center z ⌝ }
+{
+    let value = to_double(z);
+    Trial {
+        z,
+        value,
+        term: term(weight, center, value),
+    }
+}
+
+// Whether a step goes upward, `first` being whether the first step does: odd steps go where that goes.
+fn upward(step: u64, first: bool) -> bool
+    ensures { λ r. ⌜ r ≡ Bool·beq (eqb (step % 2) 1) first ⌝ }
+{
+    if step % 2 == 1 {
+        return first;
+    }
+    !first
+}
+
+// Whether the direction of a step is closed, given whether each is.
+fn done(positive: bool, above: bool, below: bool) -> bool
+    ensures { λ r. ⌜ r ≡ cond positive above below ⌝ }
+{
+    if positive {
+        return above;
+    }
+    below
+}
+
+impl Children {
+    // A level's generator before its first child. It is Closed, a level without children, where the nearest integer's
+    // term is not at most `remaining`.
+    pub fn new(center: f64, remaining: f64, weight: f64) -> Level
+        ensures { λ r. ⌜ r ≡ levelOf (Z.start center remaining weight) ⌝ }
+    {
+        let nearest = rounded_away(center);
+        if term(weight, center, nearest.double) <= remaining {
+            return Level::Open(Children {
+                center,
+                remaining,
+                weight,
+                nearest: nearest.integer,
+                step: 1,
+                emitted_nearest: false,
+                positive_done: false,
+                negative_done: false,
+            });
+        }
+        Level::Closed
+    }
+
+    // The candidate at a magnitude in a direction: it is an i64 and its term is at most what remained, or not.
+    fn tested(self, magnitude: u64, positive: bool) -> Tested
+        requires { ⌜ magnitude < 2 ^ 63 ⌝ }
+        ensures { λ r. ⌜ r ≡ testedOf (zigzag self) (cond positive (self .nearest +ℤ pos magnitude) (self .nearest -ℤ pos magnitude)) ⌝ }
+    {
+        let Moved::In(z) = candidate(self.nearest, magnitude, positive) else {
+            return Tested::Failed;
+        };
+        let t = trial_of(self.weight, self.center, z);
+        if t.term <= self.remaining {
+            return Tested::Passed(t);
+        }
+        Tested::Failed
+    }
+
+    // The next child with the generator after it, or the end: both directions are closed. A child takes at most two
+    // steps, so the bound on `step` lasts for 2^61 children.
+    pub fn next(self) -> Child
+        requires { ⌜ self .step < 2 ^ 62 ⌝ }
+        ensures { λ r. ⌜ r ≡ childOf (Z.next (zigzag self)) ⌝ }
+    {
+        let nearest = trial_of(self.weight, self.center, self.nearest);
+        if !self.emitted_nearest {
+            return Child::At(
+                nearest,
+                Children {
+                    emitted_nearest: true,
+                    ..self
+                },
+            );
+        }
+        let positive_first = self.center >= nearest.value;
+        let mut step = self.step;
+        let mut positive_done = self.positive_done;
+        let mut negative_done = self.negative_done;
+        while !positive_done || !negative_done {
+            let magnitude = (step + 1) / 2;
+            let positive = upward(step, positive_first);
+            step += 1;
+            if done(positive, positive_done, negative_done) {
+                continue;
+            }
+            let Tested::Passed(t) = self.tested(magnitude, positive) else {
+                if positive {
+                    positive_done = true;
+                    continue;
+                }
+                negative_done = true;
+                continue;
+            };
+            return Child::At(
+                t,
+                Children {
+                    step,
+                    positive_done,
+                    negative_done,
+                    ..self
+                },
+            );
+        }
+        Child::End
+    }
+}

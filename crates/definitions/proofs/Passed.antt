@@ -1,0 +1,94 @@
+-- What the checks of `round`, `nearest_plane` and the searches leave of the lengths where they pass, and what a refusal leaves in the slices. Assumes nothing.
+use mathlib.Core.Path.{_≡_, refl, sym, ap, _∙_}
+use mathlib.Core.Bool.{Bool, true, false, not, _&&_}
+use mathlib.Core.List.{List, [], _∷_}
+use Prim.Native.Nat.{ℕ}
+use borrow.Author.Tests.{eqb-true}
+use lib.Dec.{eqb}
+use lib.ListN.{length}
+use lib.IntN.{ℤ}
+use lib.Ieee.{Float}
+use Rattle.definitions.specs.Table.{Table, dimension, largestDimension}
+use Rattle.definitions.specs.Seeds.{rounded, nearestPlane}
+use Rattle.definitions.specs.Refusals.{Refusal, lengthMismatch}
+use Rattle.definitions.specs.Checks.{Verdict, pass, refuse, firstRefusal, refuseIf, tableChecks, lengthCheck, planeLengthCheck, targetCheck, finiteCheck}
+use Rattle.definitions.specs.Calls.{searchChecks, round, roundOutput, plane, planeOutput, planeCoefficients}
+use Rattle.definitions.proofs.Verdicts.{refuse≢pass, first-alone, append-passes}
+use Rattle.definitions.proofs.Tables.{CheckedTable, table-passed}
+
+-- ---- lengths
+same-if : (b : Bool) (e : Refusal) → refuseIf (not b) e ≡ pass → b ≡ true
+same-if true e q = refl
+same-if false e q = absurd (refuse≢pass q)
+
+pub length-passed : (expected found : ℕ) → lengthCheck expected found ≡ pass → expected ≡ found
+length-passed expected found q = eqb-true expected found (same-if (eqb expected found) (lengthMismatch expected found) q)
+
+plane-length-passed : (n a b : ℕ) → planeLengthCheck n a b ≡ pass → (n ≡ a) × (n ≡ b)
+plane-length-passed n a b q = both (eqb n a) (eqb n b) refl refl (same-if (eqb n a && eqb n b) (lengthMismatch n a) q)
+  where
+    both : (x y : Bool) → eqb n a ≡ x → eqb n b ≡ y → (x && y) ≡ true → (n ≡ a) × (n ≡ b)
+    both true true p r e = (eqb-true n a p, eqb-true n b r)
+    both true false p r e = absurd (mathlib.Core.Bool.false≢true e)
+    both false y p r e = absurd (mathlib.Core.Bool.false≢true e)
+
+-- ---- the calls
+pub round-passed : (coefficients : List Float) (out : List ℤ) → round coefficients out ≡ pass → length coefficients ≡ length out
+unfolding round
+round-passed coefficients out q =
+    let p = append-passes (lengthCheck (length coefficients) (length out) ∷ []) (finiteCheck coefficients ∷ []) q in
+    length-passed (length coefficients) (length out) (sym (first-alone (lengthCheck (length coefficients) (length out))) ∙ p .0)
+
+pub record PlanePassed (t : Table) (coefficients : List Float) (out : List ℤ) : Type 0 where
+  pub checked : CheckedTable largestDimension t
+  pub coefficients-length : dimension t ≡ length coefficients
+  pub output-length : dimension t ≡ length out
+
+pub plane-passed : (t : Table) (coefficients : List Float) (out : List ℤ) → plane t coefficients out ≡ pass → PlanePassed t coefficients out
+unfolding plane
+plane-passed t coefficients out q =
+    let lengths = planeLengthCheck (dimension t) (length coefficients) (length out) in
+    let p = append-passes (tableChecks largestDimension t) (lengths ∷ finiteCheck coefficients ∷ []) q in
+    let r = append-passes (lengths ∷ []) (finiteCheck coefficients ∷ []) (p .1) in
+    let s = plane-length-passed (dimension t) (length coefficients) (length out) (sym (first-alone lengths) ∙ r .0) in
+    record { checked = table-passed largestDimension t (p .0); coefficients-length = s .0; output-length = s .1 }
+
+pub record SearchPassed (t : Table) (target : List Float) (out : List ℤ) : Type 0 where
+  pub checked : CheckedTable largestDimension t
+  pub target-length : dimension t ≡ length target
+  pub output-length : dimension t ≡ length out
+  pub targets : targetCheck target ≡ pass
+
+pub search-passed : (t : Table) (target : List Float) (out : List ℤ) → firstRefusal (searchChecks t target out) ≡ pass → SearchPassed t target out
+unfolding searchChecks
+search-passed t target out q =
+    let a = lengthCheck (dimension t) (length target) in
+    let b = lengthCheck (dimension t) (length out) in
+    let p = append-passes (tableChecks largestDimension t) (a ∷ b ∷ targetCheck target ∷ []) q in
+    let r = append-passes (a ∷ []) (b ∷ targetCheck target ∷ []) (p .1) in
+    let s = append-passes (b ∷ []) (targetCheck target ∷ []) (r .1) in
+    record {
+      checked = table-passed largestDimension t (p .0);
+      target-length = length-passed (dimension t) (length target) (sym (first-alone a) ∙ r .0);
+      output-length = length-passed (dimension t) (length out) (sym (first-alone b) ∙ s .0);
+      targets = sym (first-alone (targetCheck target)) ∙ s .1;
+    }
+
+-- ---- what is left in the slices
+module _ (coefficients : List Float) (out : List ℤ) where
+  pub round-refused : (v : Verdict) {e : Refusal} → v ≡ refuse e → roundOutput v coefficients out ≡ out
+  unfolding roundOutput
+  round-refused v q = ap (λ (w : Verdict). roundOutput w coefficients out) q
+
+  pub round-written : (v : Verdict) → v ≡ pass → roundOutput v coefficients out ≡ rounded coefficients
+  unfolding roundOutput
+  round-written v q = ap (λ (w : Verdict). roundOutput w coefficients out) q
+
+  module _ (t : Table) where
+    pub plane-refused : (v : Verdict) {e : Refusal} → v ≡ refuse e → (planeOutput v t coefficients out ≡ out) × (planeCoefficients v t coefficients ≡ coefficients)
+    unfolding planeOutput planeCoefficients
+    plane-refused v q = (ap (λ (w : Verdict). planeOutput w t coefficients out) q, ap (λ (w : Verdict). planeCoefficients w t coefficients) q)
+
+    pub plane-written : (v : Verdict) → v ≡ pass → (planeOutput v t coefficients out ≡ nearestPlane t coefficients .point) × (planeCoefficients v t coefficients ≡ nearestPlane t coefficients .left)
+    unfolding planeOutput planeCoefficients
+    plane-written v q = (ap (λ (w : Verdict). planeOutput w t coefficients out) q, ap (λ (w : Verdict). planeCoefficients w t coefficients) q)

@@ -1,0 +1,3 @@
+-- The theorems.
+pub mod Limits
+pub mod Checked

@@ -1,0 +1,1 @@
+// Theorems about the definitions of the search. There is no code here.
