@@ -1,7 +1,6 @@
 -- Vectors, prefixes, the two tests, admitted and opened, a clause each, as equations: proofs above rewrite with these and open no definition. Assumes nothing.
 use mathlib.Core.Path.{_≡_, refl, sym, subst}
-use Prim.Native.Nat.{ℕ}
-use mathlib.Core.Bool.{Bool, true, false, _&&_}
+use mathlib.Core.Bool.{true, false, _&&_}
 use mathlib.Core.List.{List, [], _∷_}
 use lib.Dec.{T, leb, eqb, eqb→eq}
 use lib.ListN.{length}

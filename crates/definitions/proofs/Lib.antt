@@ -6,7 +6,9 @@ pub mod Steps
 pub mod Zigzags
 pub mod Turns
 pub mod Fuel
+pub mod Leaves
 pub mod Verdicts
 pub mod Tables
 pub mod Passed
+pub mod Answers
 pub mod Decimal

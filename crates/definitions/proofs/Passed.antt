@@ -1,20 +1,20 @@
 -- What the checks of `round`, `nearest_plane` and the searches leave of the lengths where they pass, and what a refusal leaves in the slices. Assumes nothing.
 use mathlib.Core.Path.{_≡_, refl, sym, ap, _∙_}
-use mathlib.Core.Bool.{Bool, true, false, not, _&&_}
+use mathlib.Core.Bool.{Bool, true, false, not, _&&_, false≢true}
 use mathlib.Core.List.{List, [], _∷_}
-use Prim.Native.Nat.{ℕ}
-use borrow.Author.Tests.{eqb-true}
-use lib.Dec.{eqb}
+use Prim.Native.Nat.{ℕ, _*_, _^_, _≤_}
+use borrow.Author.Tests.{eqb-true, ltb-false, not-false}
+use lib.Dec.{eqb, ltb}
 use lib.ListN.{length}
 use lib.IntN.{ℤ}
-use lib.Ieee.{Float}
-use Rattle.definitions.specs.Table.{Table, dimension, largestDimension}
+use lib.Ieee.{Float, lt}
+use Rattle.definitions.specs.Table.{Table, dimension, plusZero, largestDimension}
 use Rattle.definitions.specs.Seeds.{rounded, nearestPlane}
-use Rattle.definitions.specs.Refusals.{Refusal, lengthMismatch}
-use Rattle.definitions.specs.Checks.{Verdict, pass, refuse, firstRefusal, refuseIf, tableChecks, lengthCheck, planeLengthCheck, targetCheck, finiteCheck}
-use Rattle.definitions.specs.Calls.{searchChecks, round, roundOutput, plane, planeOutput, planeCoefficients}
+use Rattle.definitions.specs.Refusals.{Refusal, lengthMismatch, invalidRadius, budgetRange, listSize}
+use Rattle.definitions.specs.Checks.{Verdict, pass, refuse, firstRefusal, refuseIf, tableChecks, lengthCheck, planeLengthCheck, targetCheck, finiteCheck, notFinite, radiusCheck, budgetCheck, listSizeCheck}
+use Rattle.definitions.specs.Calls.{searchChecks, nearestChecks, listChecks, round, roundOutput, plane, planeOutput, planeCoefficients}
 use Rattle.definitions.proofs.Verdicts.{refuse≢pass, first-alone, append-passes}
-use Rattle.definitions.proofs.Tables.{CheckedTable, table-passed}
+use Rattle.definitions.proofs.Tables.{CheckedTable, table-passed, neither}
 
 -- ---- lengths
 same-if : (b : Bool) (e : Refusal) → refuseIf (not b) e ≡ pass → b ≡ true
@@ -29,8 +29,8 @@ plane-length-passed n a b q = both (eqb n a) (eqb n b) refl refl (same-if (eqb n
   where
     both : (x y : Bool) → eqb n a ≡ x → eqb n b ≡ y → (x && y) ≡ true → (n ≡ a) × (n ≡ b)
     both true true p r e = (eqb-true n a p, eqb-true n b r)
-    both true false p r e = absurd (mathlib.Core.Bool.false≢true e)
-    both false y p r e = absurd (mathlib.Core.Bool.false≢true e)
+    both true false p r e = absurd (false≢true e)
+    both false y p r e = absurd (false≢true e)
 
 -- ---- the calls
 pub round-passed : (coefficients : List Float) (out : List ℤ) → round coefficients out ≡ pass → length coefficients ≡ length out
@@ -72,6 +72,60 @@ search-passed t target out q =
       target-length = length-passed (dimension t) (length target) (sym (first-alone a) ∙ r .0);
       output-length = length-passed (dimension t) (length out) (sym (first-alone b) ∙ s .0);
       targets = sym (first-alone (targetCheck target)) ∙ s .1;
+    }
+
+-- ---- the radius and the budget
+pub radius-passed : (R : Float) → radiusCheck R ≡ pass → (notFinite R ≡ false) × (lt R plusZero ≡ false)
+unfolding radiusCheck
+radius-passed R q = neither (notFinite R) (lt R plusZero) (invalidRadius R) q
+
+pub budget-passed : (budget : ℕ) → budgetCheck budget ≡ pass → budget ≤ 2 ^ 60
+budget-passed budget q = ltb-false (2 ^ 60) budget (neither false (ltb (2 ^ 60) budget) (budgetRange budget) q .1)
+
+pub record NearestPassed (t : Table) (target : List Float) (out : List ℤ) (R : Float) (budget : ℕ) : Type 0 where
+  pub search : SearchPassed t target out
+  pub radius : radiusCheck R ≡ pass
+  pub few : budget ≤ 2 ^ 60
+
+pub nearest-passed : (t : Table) (target : List Float) (out : List ℤ) (R : Float) (budget : ℕ) → nearestChecks t target out R budget ≡ pass → NearestPassed t target out R budget
+unfolding nearestChecks
+nearest-passed t target out R budget q =
+    let p = append-passes (searchChecks t target out) (radiusCheck R ∷ budgetCheck budget ∷ []) q in
+    let r = append-passes (radiusCheck R ∷ []) (budgetCheck budget ∷ []) (p .1) in
+    record {
+      search = search-passed t target out (p .0);
+      radius = sym (first-alone (radiusCheck R)) ∙ r .0;
+      few = budget-passed budget (sym (first-alone (budgetCheck budget)) ∙ r .1);
+    }
+
+pub record ListPassed (t : Table) (target distances : List Float) (points : List ℤ) (R : Float) (budget : ℕ) : Type 0 where
+  pub checked : CheckedTable largestDimension t
+  pub target-length : dimension t ≡ length target
+  pub targets : targetCheck target ≡ pass
+  pub radius : radiusCheck R ≡ pass
+  pub few : budget ≤ 2 ^ 60
+  pub places : length distances ≤ 4096
+  pub room : length points ≡ dimension t * length distances
+
+pub list-passed : (t : Table) (target distances : List Float) (points : List ℤ) (R : Float) (budget : ℕ) → listChecks t target distances points R budget ≡ pass → ListPassed t target distances points R budget
+unfolding listChecks
+list-passed t target distances points R budget q =
+    let a = lengthCheck (dimension t) (length target) in
+    let s = listSizeCheck (dimension t) (length distances) (length points) in
+    let p = append-passes (tableChecks largestDimension t) (a ∷ targetCheck target ∷ radiusCheck R ∷ budgetCheck budget ∷ s ∷ []) q in
+    let p6 = append-passes (a ∷ []) (targetCheck target ∷ radiusCheck R ∷ budgetCheck budget ∷ s ∷ []) (p .1) in
+    let p7 = append-passes (targetCheck target ∷ []) (radiusCheck R ∷ budgetCheck budget ∷ s ∷ []) (p6 .1) in
+    let p8 = append-passes (radiusCheck R ∷ []) (budgetCheck budget ∷ s ∷ []) (p7 .1) in
+    let p9 = append-passes (budgetCheck budget ∷ []) (s ∷ []) (p8 .1) in
+    let sizes = neither (ltb 4096 (length distances)) (not (eqb (length points) (dimension t * length distances))) (listSize (length distances)) (sym (first-alone s) ∙ p9 .1) in
+    record {
+      checked = table-passed largestDimension t (p .0);
+      target-length = length-passed (dimension t) (length target) (sym (first-alone a) ∙ p6 .0);
+      targets = sym (first-alone (targetCheck target)) ∙ p7 .0;
+      radius = sym (first-alone (radiusCheck R)) ∙ p8 .0;
+      few = budget-passed budget (sym (first-alone (budgetCheck budget)) ∙ p9 .0);
+      places = ltb-false 4096 (length distances) (sizes .0);
+      room = eqb-true (length points) (dimension t * length distances) (not-false (eqb (length points) (dimension t * length distances)) (sizes .1));
     }
 
 -- ---- what is left in the slices

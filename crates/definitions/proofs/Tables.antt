@@ -21,7 +21,8 @@ row-within n j below =
     let h : (j + 1) * n ≤ n * n = mul-le-mul-right n (omega arith) in
     omega (arith, add-mul j 1 n)
 
-neither : (a b : Bool) (e : Refusal) → refuseIf (a || b) e ≡ pass → (a ≡ false) × (b ≡ false)
+-- a check of two faults that passes
+pub neither : (a b : Bool) (e : Refusal) → refuseIf (a || b) e ≡ pass → (a ≡ false) × (b ≡ false)
 neither true b e q = absurd (refuse≢pass q)
 neither false true e q = absurd (refuse≢pass q)
 neither false false e q = (refl, refl)

@@ -1,2 +1,7 @@
 -- What the theorems speak of, beside the definitions of document 01.
 pub mod Doubles
+pub mod Counting
+pub mod Children
+pub mod Prefixes
+pub mod Unbudgeted
+pub mod Ordered

@@ -1,0 +1,43 @@
+-- `babai_test::double` is proved: the bits are asked only of a number that equals itself. Assumes nothing.
+use mathlib.Core.Path.{sym, _∙_}
+use borrow.Author.Needs.{needs}
+use Rattle.rounding.proofs.Comparison.{failed, differs}
+use Rattle.babai_test.proofs.double.Statement.{statement}
+use Rattle.babai_test.proofs.double.Tie as tie
+
+slice-aggregate-word : tie.Need-slice-aggregate-word
+slice-aggregate-word c = search needs
+
+word-requires : tie.Need-word-requires
+word-requires c κs = search needs
+
+returns : tie.Need-returns
+returns c = search needs
+
+slice-aggregate-word-2 : tie.Need-slice-aggregate-word-2
+slice-aggregate-word-2 c = search needs
+
+word-requires-2 : tie.Need-word-requires-2
+word-requires-2 c κs = search needs
+
+float-to-bits-print-hex : tie.Need-float-to-bits-print-hex
+float-to-bits-print-hex c = failed (sym (differs (c .before .before .before .args .x)) ∙ c .before .before .if1 .left)
+
+print-hex-requires : tie.Need-print-hex-requires
+print-hex-requires c κs = search needs
+
+returns-2 : tie.Need-returns-2
+returns-2 c = search needs
+
+pub double-spec : {M : Type 1} → statement M
+double-spec =
+    tie.close
+    (tie.spec
+    slice-aggregate-word
+    word-requires
+    returns
+    slice-aggregate-word-2
+    word-requires-2
+    float-to-bits-print-hex
+    print-hex-requires
+    returns-2)

@@ -1,0 +1,67 @@
+-- `babai_test::integers` is proved: it stays in its slice and ends. Assumes nothing.
+use Prim.Native.Nat.{_≤_, _-_}
+use lib.ListN.{length}
+use borrow.Author.Needs.{needs}
+use Rattle.babai_test.proofs.integers.Statement.{statement}
+use Rattle.babai_test.proofs.integers.Tie as tie
+
+abbrev Inv-loop : tie.InvT-loop
+Inv-loop values i₀ t4 i = i ≤ length values
+
+abbrev μ-loop : tie.MeasureT-loop
+μ-loop values i₀ t4 i = length values - i
+
+slice-aggregate-word : tie.Need-slice-aggregate-word Inv-loop μ-loop
+slice-aggregate-word c = search needs
+
+word-requires : tie.Need-word-requires Inv-loop μ-loop
+word-requires c κs = search needs
+
+loop-holds : tie.Need-loop-holds Inv-loop μ-loop
+loop-holds c = search needs
+
+mul-integer : tie.Need-mul-integer Inv-loop μ-loop
+mul-integer c = search needs
+
+shared-slice-copy-out-integer : tie.Need-shared-slice-copy-out-integer Inv-loop μ-loop
+shared-slice-copy-out-integer c = search needs
+
+integer-requires : tie.Need-integer-requires Inv-loop μ-loop
+integer-requires c κs = search needs
+
+add-i : tie.Need-add-i Inv-loop μ-loop
+add-i c = search needs
+
+loop-less : tie.Need-loop-less Inv-loop μ-loop
+loop-less c = search needs
+
+loop-again : tie.Need-loop-again Inv-loop μ-loop
+loop-again c = search needs
+
+slice-aggregate-word-2 : tie.Need-slice-aggregate-word-2 Inv-loop μ-loop
+slice-aggregate-word-2 c = search needs
+
+word-requires-2 : tie.Need-word-requires-2 Inv-loop μ-loop
+word-requires-2 c κs = search needs
+
+returns : tie.Need-returns Inv-loop μ-loop
+returns c = search needs
+
+pub integers-spec : {M : Type 1} → statement M
+integers-spec =
+    tie.close
+    (tie.spec
+    Inv-loop
+    μ-loop
+    slice-aggregate-word
+    word-requires
+    loop-holds
+    mul-integer
+    shared-slice-copy-out-integer
+    integer-requires
+    add-i
+    loop-less
+    loop-again
+    slice-aggregate-word-2
+    word-requires-2
+    returns)

@@ -1,0 +1,2 @@
+-- The law that the proofs of `two` and `three` cite.
+mod Square
