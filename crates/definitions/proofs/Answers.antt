@@ -7,19 +7,20 @@ use lib.Dec.{ltb}
 use lib.ListN.{length}
 use lib.IntN.{ℤ}
 use lib.Ieee.{Float}
-use Rattle.definitions.specs.Table.{Table}
+use Rattle.definitions.specs.Table.{Table, dimension}
 use Rattle.definitions.specs.Walk.{ended, exhausted}
 use Rattle.definitions.specs.Nearest.{no-best, best, nearestWalk}
 use Rattle.definitions.specs.Listing.{ListPoint, listWalk, sorted}
-use Rattle.definitions.specs.Refusals.{Refusal, budgetExhausted, outsideRadius, listFull}
+use Rattle.definitions.specs.Seeds.{widened}
+use Rattle.definitions.specs.Refusals.{Refusal, budgetExhausted, outsideRadius, noSeed, listFull}
 use Rattle.definitions.specs.Checks.{Verdict, pass, refuse, handedOn}
-use Rattle.definitions.specs.Calls.{Answer, found, refused, after, NearestPoint, endOfNearest, nearestChecks, nearest, nearestOutput, ListAnswer, endOfList, listChecks, list, written, coordinates, listDistances, listPoints}
+use Rattle.definitions.specs.Calls.{Answer, found, refused, after, NearestPoint, endOfNearest, nearestChecks, nearest, widenedSearch, seededChecks, nearestSeeded, mlRadius, mlChecks, nearestMl, nearestOutput, ListAnswer, endOfList, listChecks, list, written, coordinates, listDistances, listPoints}
 
-after-pass : {A : Type 0} (v : Verdict) (a : Answer A) → v ≡ pass → after v a ≡ a
+pub after-pass : {A : Type 0} (v : Verdict) (a : Answer A) → v ≡ pass → after v a ≡ a
 unfolding after
 after-pass {A} v a q = ap (λ (w : Verdict). after w a) q
 
-after-refuse : {A : Type 0} (v : Verdict) (a : Answer A) (e : Refusal) → v ≡ refuse e → after v a ≡ refused e
+pub after-refuse : {A : Type 0} (v : Verdict) (a : Answer A) (e : Refusal) → v ≡ refuse e → after v a ≡ refused e
 unfolding after
 after-refuse {A} v a e q = ap (λ (w : Verdict). after w a) q
 
@@ -46,7 +47,7 @@ unfolding nearestOutput
 output-refused e out = refl
 
 module _ (t : Table) (target : List Float) (out : List ℤ) (R : Float) (budget : ℕ) where
-  nearest-is : nearest t target out R budget ≡ after (nearestChecks t target out R budget) (endOfNearest (outsideRadius (handedOn R)) (nearestWalk t target (handedOn R) budget))
+  pub nearest-is : nearest t target out R budget ≡ after (nearestChecks t target out R budget) (endOfNearest (outsideRadius (handedOn R)) (nearestWalk t target (handedOn R) budget))
   unfolding nearest
   nearest-is = refl
 
@@ -55,6 +56,33 @@ module _ (t : Table) (target : List Float) (out : List ℤ) (R : Float) (budget 
 
   pub nearest-refused : (e : Refusal) → nearestChecks t target out R budget ≡ refuse e → nearest t target out R budget ≡ refused e
   nearest-refused e q = nearest-is ∙ after-refuse (nearestChecks t target out R budget) (endOfNearest (outsideRadius (handedOn R)) (nearestWalk t target (handedOn R) budget)) e q
+
+-- ---- seeded and ml: the walk at the widened radius
+pub widened-search-is : (t : Table) (target : List Float) (R : Float) (budget : ℕ) → widenedSearch t target R budget ≡ endOfNearest (noSeed (widened (dimension t) R)) (nearestWalk t target (widened (dimension t) R) budget)
+unfolding widenedSearch
+widened-search-is t target R budget = refl
+
+module _ (t : Table) (target : List Float) (out candidate : List ℤ) (R : Float) (budget : ℕ) where
+  pub seeded-is : nearestSeeded t target out candidate R budget ≡ after (seededChecks t target out candidate R budget) (widenedSearch t target (handedOn R) budget)
+  unfolding nearestSeeded
+  seeded-is = refl
+
+  pub seeded-checked : seededChecks t target out candidate R budget ≡ pass → nearestSeeded t target out candidate R budget ≡ widenedSearch t target (handedOn R) budget
+  seeded-checked q = seeded-is ∙ after-pass (seededChecks t target out candidate R budget) (widenedSearch t target (handedOn R) budget) q
+
+  pub seeded-refused : (e : Refusal) → seededChecks t target out candidate R budget ≡ refuse e → nearestSeeded t target out candidate R budget ≡ refused e
+  seeded-refused e q = seeded-is ∙ after-refuse (seededChecks t target out candidate R budget) (widenedSearch t target (handedOn R) budget) e q
+
+module _ (t : Table) (target : List Float) (out : List ℤ) (budget : ℕ) where
+  pub ml-is : nearestMl t target out budget ≡ after (mlChecks t target out budget) (widenedSearch t target (mlRadius t target) budget)
+  unfolding nearestMl
+  ml-is = refl
+
+  pub ml-checked : mlChecks t target out budget ≡ pass → nearestMl t target out budget ≡ widenedSearch t target (mlRadius t target) budget
+  ml-checked q = ml-is ∙ after-pass (mlChecks t target out budget) (widenedSearch t target (mlRadius t target) budget) q
+
+  pub ml-refused : (e : Refusal) → mlChecks t target out budget ≡ refuse e → nearestMl t target out budget ≡ refused e
+  ml-refused e q = ml-is ∙ after-refuse (mlChecks t target out budget) (widenedSearch t target (mlRadius t target) budget) e q
 
 -- ---- how a list ends
 module _ (places : ℕ) where
@@ -97,7 +125,7 @@ unfolding coordinates
 coordinates-cons p ps = refl
 
 module _ (t : Table) (target : List Float) (distances : List Float) (points : List ℤ) (R : Float) (budget : ℕ) where
-  list-is : list t target distances points R budget ≡ after (listChecks t target distances points R budget) (endOfList (length distances) (listWalk t target (handedOn R) budget))
+  pub list-is : list t target distances points R budget ≡ after (listChecks t target distances points R budget) (endOfList (length distances) (listWalk t target (handedOn R) budget))
   unfolding list
   list-is = refl
 

@@ -9,10 +9,11 @@ use lib.ListN.{length}
 use lib.IntN.{ℤ}
 use lib.Ieee.{Float, lt}
 use Rattle.definitions.specs.Table.{Table, dimension, plusZero, largestDimension}
-use Rattle.definitions.specs.Seeds.{rounded, nearestPlane}
-use Rattle.definitions.specs.Refusals.{Refusal, lengthMismatch, invalidRadius, budgetRange, listSize}
-use Rattle.definitions.specs.Checks.{Verdict, pass, refuse, firstRefusal, refuseIf, tableChecks, lengthCheck, planeLengthCheck, targetCheck, finiteCheck, notFinite, radiusCheck, budgetCheck, listSizeCheck}
-use Rattle.definitions.specs.Calls.{searchChecks, nearestChecks, listChecks, round, roundOutput, plane, planeOutput, planeCoefficients}
+use Rattle.definitions.specs.Distance.{distance}
+use Rattle.definitions.specs.Seeds.{rounded, nearestPlane, widened}
+use Rattle.definitions.specs.Refusals.{Refusal, lengthMismatch, invalidRadius, budgetRange, candidateLength, candidateDistance, candidateOutside, widenedRadius, listSize}
+use Rattle.definitions.specs.Checks.{Verdict, pass, refuse, firstRefusal, refuseIf, tableChecks, lengthCheck, planeLengthCheck, targetCheck, finiteCheck, notFinite, radiusCheck, handedOn, budgetCheck, candidateLengthCheck, candidateDistanceCheck, candidateOutsideCheck, widenedRadiusCheck, listSizeCheck}
+use Rattle.definitions.specs.Calls.{searchChecks, nearestChecks, seededChecks, mlRadius, mlChecks, listChecks, round, roundOutput, plane, planeOutput, planeCoefficients}
 use Rattle.definitions.proofs.Verdicts.{refuse≢pass, first-alone, append-passes}
 use Rattle.definitions.proofs.Tables.{CheckedTable, table-passed, neither}
 
@@ -126,6 +127,73 @@ list-passed t target distances points R budget q =
       few = budget-passed budget (sym (first-alone (budgetCheck budget)) ∙ p9 .0);
       places = ltb-false 4096 (length distances) (sizes .0);
       room = eqb-true (length points) (dimension t * length distances) (not-false (eqb (length points) (dimension t * length distances)) (sizes .1));
+    }
+
+-- ---- candidates
+pub candidate-length-passed : (expected found : ℕ) → candidateLengthCheck expected found ≡ pass → expected ≡ found
+candidate-length-passed expected found q = eqb-true expected found (same-if (eqb expected found) (candidateLength expected found) q)
+
+pub total-passed : (total : Float) → candidateDistanceCheck total ≡ pass → notFinite total ≡ false
+total-passed total q = neither false (notFinite total) (candidateDistance total) q .1
+
+pub outside-passed : (R d : Float) → candidateOutsideCheck R d ≡ pass → lt R d ≡ false
+unfolding candidateOutsideCheck
+outside-passed R d q = neither false (lt R d) (candidateOutside R) q .1
+
+pub widened-passed : (radius : Float) → widenedRadiusCheck radius ≡ pass → notFinite radius ≡ false
+widened-passed radius q = neither false (notFinite radius) (widenedRadius radius) q .1
+
+pub record SeededPassed (t : Table) (target : List Float) (out candidate : List ℤ) (R : Float) (budget : ℕ) : Type 0 where
+  pub search : SearchPassed t target out
+  pub radius : radiusCheck R ≡ pass
+  pub few : budget ≤ 2 ^ 60
+  pub candidate-length : dimension t ≡ length candidate
+  pub total : notFinite (distance t target candidate) ≡ false
+  pub inside : lt (handedOn R) (distance t target candidate) ≡ false
+  pub wide : notFinite (widened (dimension t) (handedOn R)) ≡ false
+
+pub seeded-passed : (t : Table) (target : List Float) (out candidate : List ℤ) (R : Float) (budget : ℕ) → seededChecks t target out candidate R budget ≡ pass → SeededPassed t target out candidate R budget
+unfolding seededChecks
+seeded-passed t target out candidate R budget q =
+    let c10 = candidateLengthCheck (dimension t) (length candidate) in
+    let c11 = candidateDistanceCheck (distance t target candidate) in
+    let c12 = candidateOutsideCheck (handedOn R) (distance t target candidate) in
+    let c13 = widenedRadiusCheck (widened (dimension t) (handedOn R)) in
+    let p = append-passes (searchChecks t target out) (radiusCheck R ∷ budgetCheck budget ∷ c10 ∷ c11 ∷ c12 ∷ c13 ∷ []) q in
+    let p8 = append-passes (radiusCheck R ∷ []) (budgetCheck budget ∷ c10 ∷ c11 ∷ c12 ∷ c13 ∷ []) (p .1) in
+    let p9 = append-passes (budgetCheck budget ∷ []) (c10 ∷ c11 ∷ c12 ∷ c13 ∷ []) (p8 .1) in
+    let p10 = append-passes (c10 ∷ []) (c11 ∷ c12 ∷ c13 ∷ []) (p9 .1) in
+    let p11 = append-passes (c11 ∷ []) (c12 ∷ c13 ∷ []) (p10 .1) in
+    let p12 = append-passes (c12 ∷ []) (c13 ∷ []) (p11 .1) in
+    record {
+      search = search-passed t target out (p .0);
+      radius = sym (first-alone (radiusCheck R)) ∙ p8 .0;
+      few = budget-passed budget (sym (first-alone (budgetCheck budget)) ∙ p9 .0);
+      candidate-length = candidate-length-passed (dimension t) (length candidate) (sym (first-alone c10) ∙ p10 .0);
+      total = total-passed (distance t target candidate) (sym (first-alone c11) ∙ p11 .0);
+      inside = outside-passed (handedOn R) (distance t target candidate) (sym (first-alone c12) ∙ p12 .0);
+      wide = widened-passed (widened (dimension t) (handedOn R)) (sym (first-alone c13) ∙ p12 .1);
+    }
+
+pub record MlPassed (t : Table) (target : List Float) (out : List ℤ) (budget : ℕ) : Type 0 where
+  pub search : SearchPassed t target out
+  pub few : budget ≤ 2 ^ 60
+  pub total : notFinite (mlRadius t target) ≡ false
+  pub wide : notFinite (widened (dimension t) (mlRadius t target)) ≡ false
+
+pub ml-passed : (t : Table) (target : List Float) (out : List ℤ) (budget : ℕ) → mlChecks t target out budget ≡ pass → MlPassed t target out budget
+unfolding mlChecks
+ml-passed t target out budget q =
+    let c11 = candidateDistanceCheck (mlRadius t target) in
+    let c13 = widenedRadiusCheck (widened (dimension t) (mlRadius t target)) in
+    let p = append-passes (searchChecks t target out) (budgetCheck budget ∷ c11 ∷ c13 ∷ []) q in
+    let p9 = append-passes (budgetCheck budget ∷ []) (c11 ∷ c13 ∷ []) (p .1) in
+    let p11 = append-passes (c11 ∷ []) (c13 ∷ []) (p9 .1) in
+    record {
+      search = search-passed t target out (p .0);
+      few = budget-passed budget (sym (first-alone (budgetCheck budget)) ∙ p9 .0);
+      total = total-passed (mlRadius t target) (sym (first-alone c11) ∙ p11 .0);
+      wide = widened-passed (widened (dimension t) (mlRadius t target)) (sym (first-alone c13) ∙ p11 .1);
     }
 
 -- ---- what is left in the slices

@@ -27,11 +27,11 @@ double-at [] d k = nan-fits binary64
 double-at (x ∷ xs) d zero = and-l (fits binary64 x) (allDoubles xs) d
 double-at (x ∷ xs) d (suc k) = double-at xs (and-r (fits binary64 x) (allDoubles xs) d) k
 
-held : (b : Bool) → not b ≡ false → T b
+pub held : (b : Bool) → not b ≡ false → T b
 held true e = tt
 held false e = absurd (mathlib.Core.Bool.true≢false e)
 
-failed : (b : Bool) → b ≡ false → T (not b)
+pub failed : (b : Bool) → b ≡ false → T (not b)
 failed b e = subst (λ (x : Bool). T (not x)) (sym e) tt
 
 neither : (a b : Bool) → (a || b) ≡ false → (a ≡ false) × (b ≡ false)

@@ -27,3 +27,8 @@ pub mod Seeded
 pub mod Listing
 pub mod Orders
 pub mod Sorting
+-- ---- the calls
+pub mod Endings
+pub mod NearestCall
+pub mod ListCall
+pub mod WidenedCalls

@@ -9,9 +9,9 @@ use mathlib.Core.List.{List, [], _∷_}
 use lib.Dec.{T, not-T}
 use lib.ListN.{length}
 use lib.IntN.{ℤ, pos}
-use lib.Ieee.{Float, binary64, le, lt}
+use lib.Ieee.{Float, binary64, le, lt, fits}
 use lib.Ieee.Scale.{finite}
-use lib.Ieee.Fits.{and-i}
+use lib.Ieee.Fits.{and-i, add-fits}
 use Rattle.rounding.specs.Integers.{roundAway}
 use Rattle.rounding.proofs.Value.{Number, Finite, number, mid, ord, ord-zero, lt→ord, ord→lt, le→ord, not-lt→le, float-le-refl, nonneg-mid}
 use Rattle.rounding.proofs.Tests.{mid-of-not-lt}
@@ -69,6 +69,10 @@ module _ (t : Table) (target : List Float) (none : dimension t ≡ 0) (R : Float
 widened-is : (n : ℕ) (R : Float) → widened n R ≡ widenedBy n R
 unfolding widened
 widened-is n R = refl
+
+-- it is a double, whatever the radius
+pub widened-double : (n : ℕ) (R : Float) → T (fits binary64 (widened n R))
+widened-double n R = subst (λ (x : Float). T (fits binary64 x)) (sym (widened-is n R)) (add-fits binary64 R _)
 
 module _ (t : Table) (target : List Float) (limits : Limits t target) (R : Float) (fin : Finite binary64 R) (plus : T (not (lt R plusZero))) (wide : Finite binary64 (widened (dimension t) R)) where
   above : 0 < dimension t → ord binary64 R < ord binary64 (widened (dimension t) R)
