@@ -16,6 +16,7 @@ pub mod NonNegative
 pub mod PowerBounds
 pub mod Widening
 pub mod Tests
+pub mod Equality
 -- What the proofs of the functions cite.
 pub mod ExactIntegers
 pub mod Doubling
