@@ -7,6 +7,7 @@ pub mod Zigzags
 pub mod Turns
 pub mod Fuel
 pub mod Leaves
+pub mod ListedOrder
 pub mod Verdicts
 pub mod Tables
 pub mod Passed

@@ -11,7 +11,7 @@ use lib.ListN.{length}
 use lib.IntN.{ℤ}
 use lib.Ieee.{Float, binary64, lt}
 use lib.Ieee.Fits.{and-l}
-use Rattle.rounding.proofs.Value.{Number, Finite}
+use Rattle.rounding.proofs.Value.{NonNegative, Finite}
 use Rattle.definitions.specs.Table.{Table, dimension, plusZero}
 use Rattle.definitions.specs.Distance.{distance}
 use Rattle.definitions.specs.Admitted.{isVector, passes, admitted}
@@ -25,7 +25,8 @@ use Rattle.theorems.proofs.Booleans.{tally-most, tally-some, of-true, r
 use Rattle.theorems.proofs.Limits.{Limits}
 use Rattle.theorems.proofs.Sums.{distance-nonneg}
 use Rattle.theorems.proofs.Counts.{sameVector-refl}
-use Rattle.theorems.proofs.Orders.{Comparable, listed-trans, listed-total}
+use Rattle.definitions.proofs.ListedOrder.{Listed as Comparable}
+use Rattle.theorems.proofs.Orders.{listed-trans, listed-total}
 use Rattle.theorems.proofs.Listing.{Listed, list-exact}
 
 -- ---- what holds of every point holds after sorting
@@ -136,7 +137,7 @@ module _ (t : Table) (target : List Float) (limits : Limits t target) (R : Float
   comparable [] o v = tt
   comparable (a ∷ ps) o v =
       let vector : T (isVector t (a .point)) = v (a .point) (here (sameVector (a .point) (a .point)) (sameVector-refl (a .point))) in (
-        record { num = subst (Number binary64) (sym (o .0)) (distance-nonneg t target limits (a .point) vector .num); len = vector-length t (a .point) vector },
+        record { distance = subst (NonNegative binary64) (sym (o .0)) (distance-nonneg t target limits (a .point) vector); coordinates = vector-length t (a .point) vector },
         comparable ps (o .1) (λ x h. v x (le-trans h (le-add-left (count x (vectorsOf ps)) (tally (sameVector x (a .point)))))),
       )
     where
