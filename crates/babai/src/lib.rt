@@ -59,7 +59,7 @@ pub fn round(coefficients: &[f64], out: &mut [i64]) -> Verdict
 }
 
 // The levels from n - 1 down to 0: the integers go to out, what is left to the coefficients.
-fn plane_levels(weights: &[f64], mu: &[f64], coefficients: &mut [f64], out: &mut [i64])
+pub fn plane_levels(weights: &[f64], mu: &[f64], coefficients: &mut [f64], out: &mut [i64])
     requires { ⌜ length (now weights) ≤ 64 ⌝ }
     requires { ⌜ length (now mu) ≡ length (now weights) * length (now weights) ⌝ }
     requires { ⌜ length (now coefficients) ≡ length (now weights) ⌝ }

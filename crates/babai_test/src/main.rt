@@ -7,8 +7,11 @@
 // The expected output was written by this program compiled as Rust, with the text of the Rust's `round_away`, `round`
 // and `nearest_plane` in the place of the crate `babai`, and a `Gso` whose mu(j, i) is mu[j·n+i]. The lines of refusals
 // 2 to 5, which the Rust does not have, are worked out by hand from document 01.
-use refusals::Refusal;
-use refusals::Verdict;
+use printing::doubles;
+use printing::integers;
+use printing::newline;
+use printing::verdict;
+use printing::word;
 
 const LARGEST: f64 = 1.7976931348623157e308;
 
@@ -28,91 +31,13 @@ fn nan() -> f64 {
     0.0 / 0.0
 }
 
-fn word(text: &[u8]) {
-    io::write_all(1, text);
-}
-
-fn integer(n: i64) {
-    if n >= 0 {
-        word(b" ");
-        io::print_decimal(1, n as u64);
-        return;
-    }
-    // -n does not fit at i64::MIN, so this negates n + 1
-    word(b" -");
-    io::print_decimal(1, ((0 - (n + 1)) as u64) + 1);
-}
-
-fn double(x: f64) {
-    if x != x {
-        word(b" nan");
-        return;
-    }
-    word(b" ");
-    io::print_hex(1, f64::to_bits(x), 16);
-}
-
-fn integers(values: &[i64]) {
-    word(b" [");
-    let mut i = 0;
-    while i < values.len() {
-        integer(values[i]);
-        i += 1;
-    }
-    word(b" ]");
-}
-
-fn doubles(values: &[f64]) {
-    word(b" [");
-    let mut i = 0;
-    while i < values.len() {
-        double(values[i]);
-        i += 1;
-    }
-    word(b" ]");
-}
-
-fn one(number: &[u8], a: u64) {
-    word(number);
-    io::print_decimal(1, a);
-    word(b")");
-}
-
-fn two(number: &[u8], a: u64, b: u64) {
-    word(number);
-    io::print_decimal(1, a);
-    word(b", ");
-    io::print_decimal(1, b);
-    word(b")");
-}
-
-// The refusals from 8 on concern neither call.
-fn refusal(e: Refusal) {
-    match e {
-        Refusal::TableSize(a) => one(b" 2(", a as u64),
-        Refusal::MuNonFinite(a) => one(b" 3(", a as u64),
-        Refusal::MuRange(a) => one(b" 4(", a as u64),
-        Refusal::WeightRange(a) => one(b" 5(", a as u64),
-        Refusal::LengthMismatch(a, b) => two(b" 6(", a as u64, b as u64),
-        Refusal::NonFinite(a) => one(b" 7(", a as u64),
-        _ => word(b" unexpected"),
-    }
-}
-
-fn verdict(v: Verdict) {
-    match v {
-        Verdict::Pass => word(b" pass"),
-        Verdict::Refuse(e) => refusal(e),
-    }
-}
-
 // ---- round
 
 fn round(name: &[u8], coefficients: &[f64], out: &mut [i64]) {
     word(name);
     verdict(babai::round(coefficients, out));
     integers(out);
-    word(b"\n");
+    newline();
 }
 
 fn round_four(name: &[u8], coefficients: [f64; 4]) {
@@ -154,7 +79,7 @@ fn plane(name: &[u8], weights: &[f64], mu: &[f64], coefficients: &mut [f64], out
     verdict(babai::nearest_plane(weights, mu, coefficients, out));
     doubles(coefficients);
     integers(out);
-    word(b"\n");
+    newline();
 }
 
 // Only the entry at 2 is read.
@@ -329,11 +254,10 @@ fn call(name: &[u8], coefficients: &mut [f64], out: &mut [i64]) {
     plane(name, &weights, &mu, coefficients, out);
 }
 
-// 6 has the coefficients' length, also where the output is the wrong one. 7 has the first index, and no limit.
-fn calls() {
+// 6 has the coefficients' length, also where the output is the wrong one.
+fn lengths() {
     let mut two_coefficients = [nan(), 1.5];
     let mut three_coefficients = [LARGEST, -BEYOND, nan()];
-    let mut infinite = [1.5, -infinity(), nan()];
     let mut four_coefficients = [1.5, 2.5, -0.0, infinity()];
     let mut two_places = [7, -8];
     let mut three_places = [7, -8, 9];
@@ -350,8 +274,12 @@ fn calls() {
     );
     call(b"6 fewer places:", &mut three_coefficients, &mut two_places);
     call(b"6 more places:", &mut three_coefficients, &mut four_places);
-    call(b"7 infinite:", &mut infinite, &mut three_places);
-    call(b"7 nan:", &mut three_coefficients, &mut three_places);
+}
+
+// 7 has the first index, and no limit.
+fn coefficients() {
+    plane_three(b"7 infinite:", [0.5; 9], [1.5, -infinity(), nan()]);
+    plane_three(b"7 nan:", [0.5; 9], [LARGEST, -BEYOND, nan()]);
 }
 
 fn main() {
@@ -364,5 +292,6 @@ fn main() {
     dimensions();
     sizes();
     values();
-    calls();
+    lengths();
+    coefficients();
 }

@@ -5,29 +5,10 @@ use children::Child;
 use children::Children;
 use children::Level;
 use children::Trial;
-
-fn word(text: &[u8]) {
-    io::write_all(1, text);
-}
-
-fn integer(n: i64) {
-    if n >= 0 {
-        io::print_decimal(1, n as u64);
-        return;
-    }
-    // -n does not fit at i64::MIN, so this negates n + 1
-    word(b"-");
-    io::print_decimal(1, ((0 - (n + 1)) as u64) + 1);
-}
-
-fn double(x: f64) {
-    if x != x {
-        word(b" nan");
-        return;
-    }
-    word(b" ");
-    io::print_hex(1, f64::to_bits(x), 16);
-}
+use printing::decimal;
+use printing::double;
+use printing::newline;
+use printing::word;
 
 fn direction(done: bool) {
     if done {
@@ -38,14 +19,14 @@ fn direction(done: bool) {
 }
 
 fn row(t: Trial, g: Children) {
-    integer(t.z);
+    decimal(t.z);
     double(t.value);
     double(t.term);
     word(b" ");
     io::print_decimal(1, g.step);
     direction(g.positive_done);
     direction(g.negative_done);
-    word(b"\n");
+    newline();
 }
 
 // The first `shown` children, and the number of all of them.

@@ -47,8 +47,8 @@ pub enum Distance {
     Overflow(f64),
 }
 
-// The sum of the terms from level n - 1 down to 0.
-fn total(mu: &[f64], weights: &[f64], target: &[f64], point: &[i64]) -> f64
+// The sum of the terms from level n - 1 down to 0: the computed distance, or an infinity where it overflows.
+pub fn total(mu: &[f64], weights: &[f64], target: &[f64], point: &[i64]) -> f64
     requires { ⌜ length (now weights) ≤ 23 ⌝ }
     requires { ⌜ length (now mu) ≡ length (now weights) * length (now weights) ⌝ }
     requires { ⌜ length (now target) ≡ length (now weights) ⌝ }

@@ -7,6 +7,9 @@
 // `triangular_distance` in the place of the crate `distance`. A line of `center` came from the Rust's `center` at a
 // point of zeros, a line of `term` from the Rust's `triangular_distance` at n = 1.
 use distance::Distance;
+use printing::double;
+use printing::newline;
+use printing::word;
 
 const LARGEST: f64 = 1.7976931348623157e308;
 
@@ -23,19 +26,6 @@ fn nan() -> f64 {
     0.0 / 0.0
 }
 
-fn word(text: &[u8]) {
-    io::write_all(1, text);
-}
-
-fn double(x: f64) {
-    if x != x {
-        word(b" nan");
-        return;
-    }
-    word(b" ");
-    io::print_hex(1, f64::to_bits(x), 16);
-}
-
 fn say(name: &[u8], d: Distance) {
     word(name);
     match d {
@@ -45,7 +35,7 @@ fn say(name: &[u8], d: Distance) {
             double(x);
         }
     }
-    word(b"\n");
+    newline();
 }
 
 fn one(name: &[u8], weight: f64, target: f64, point: i64) {
@@ -305,7 +295,7 @@ fn centers_alone() {
     double(distance::center(&mu, &rest, 3, 1, -0.02));
     double(distance::center(&mu, &rest, 3, 2, -0.0));
     double(distance::center(&mu, &zeros, 3, 0, -0.0));
-    word(b"\n");
+    newline();
 }
 
 // Other readings: weight·(d·d), first and second answer; one rounding of the exact product, first three. The
@@ -318,7 +308,7 @@ fn terms_alone() {
     double(distance::term(2.0, 3.0, 3.0));
     double(distance::term(2.0, -0.0, 0.0));
     double(distance::term(LARGEST, -1.0, 1.0));
-    word(b"\n");
+    newline();
 }
 
 fn main() {

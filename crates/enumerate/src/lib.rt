@@ -94,7 +94,7 @@ pub fn nearest_walk(
 }
 
 // The answer that a walk's end gives, `none` being the refusal where nothing was found.
-fn answered(end: Ending, none: Refusal) -> NearestAnswer
+pub fn answered(end: Ending, none: Refusal) -> NearestAnswer
     ensures { λ r. ⌜ ((out : List ℤ) → answerOf r out ≡ C.endOfNearest (numbered none) (walkedOf end out)) ⌝ }
 {
     match end {
@@ -107,7 +107,7 @@ fn answered(end: Ending, none: Refusal) -> NearestAnswer
 }
 
 // The checks of `nearest`: 2 to 9.
-fn nearest_check(
+pub fn nearest_check(
     weights: &[f64],
     mu: &[f64],
     target: &[f64],

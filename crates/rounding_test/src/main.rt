@@ -1,51 +1,16 @@
 // What the functions of `rounding` give at ties, at the ends of their domains, and at zeros, infinities and NaN. Each
-// line of the output has the answers to the calls of one function below, in their order. A double is written as the 16
+// line of the output has the answers of one function to the calls below, in their order. A double is written as the 16
 // hexadecimal digits of its bits.
+use printing::double;
+use printing::integer;
+use printing::newline;
+use printing::truth;
+use printing::word;
 use rounding::Ordering;
 
 const LARGEST: f64 = 1.7976931348623157e308;
 
 const SMALLEST: f64 = 5e-324;
-
-fn infinity() -> f64 {
-    1.0 / 0.0
-}
-
-fn nan() -> f64 {
-    0.0 / 0.0
-}
-
-fn word(text: &[u8]) {
-    io::write_all(1, text);
-}
-
-fn integer(n: i64) {
-    if n >= 0 {
-        word(b" ");
-        io::print_decimal(1, n as u64);
-        return;
-    }
-    // -n does not fit at i64::MIN, so this negates n + 1
-    word(b" -");
-    io::print_decimal(1, ((0 - (n + 1)) as u64) + 1);
-}
-
-fn double(x: f64) {
-    if x != x {
-        word(b" nan");
-        return;
-    }
-    word(b" ");
-    io::print_hex(1, f64::to_bits(x), 16);
-}
-
-fn truth(b: bool) {
-    if b {
-        word(b" true");
-        return;
-    }
-    word(b" false");
-}
 
 fn round(v: f64) {
     integer(rounding::round_away(v));
@@ -79,8 +44,10 @@ fn compare(x: f64, y: f64) {
     }
 }
 
-// Cutting gives 0 at 0.5, floor(v + 0.5) gives 1 below it and 0 at -0.5, half to even gives 2 at 2.5.
-fn round_small() {
+fn roundings() {
+    let infinity = 1.0 / 0.0;
+    let nan = 0.0 / 0.0;
+    // cutting gives 0 at 0.5, floor(v + 0.5) gives 1 below it and 0 at -0.5, half to even gives 2 at 2.5
     word(b"round_away:");
     round(0.25);
     round(0.49999999999999994);
@@ -98,13 +65,9 @@ fn round_small() {
     round(-1.5);
     round(-2.5);
     round(-3.5);
-    word(b"\n");
-}
-
-// The last halves are below 2^52; above it v + 0.5 is rounded to even. 4503599627370497.5 is no double: it is read as
-// 4503599627370498.
-fn round_large() {
-    word(b"round_away:");
+    // the last halves are below 2^52; above it v + 0.5 is rounded to even. 4503599627370497.5 is no double: it is
+    // read as 4503599627370498
+    word(b"\nround_away:");
     round(2251799813685248.5);
     round(4503599627370494.5);
     round(4503599627370495.5);
@@ -121,30 +84,27 @@ fn round_large() {
     round(-9007199254740991.0);
     round(-9007199254740994.0);
     round(-4611686018427388928.0);
-    word(b"\n");
-}
-
-fn round_ends() {
-    word(b"round_away:");
+    // the ends of i64, past them, and what is no number or next to 0
+    word(b"\nround_away:");
     round(9223372036854774784.0);
     round(9223372036854775808.0);
     round(9223372036854777856.0);
     round(LARGEST);
-    round(infinity());
+    round(infinity);
     round(-9223372036854774784.0);
     round(-9223372036854775808.0);
     round(-9223372036854777856.0);
     round(-LARGEST);
-    round(-infinity());
-    round(nan());
+    round(-infinity);
+    round(nan);
     round(0.0);
     round(-0.0);
     round(SMALLEST);
     round(-SMALLEST);
-    word(b"\n");
+    newline();
 }
 
-fn convert_exact() {
+fn conversions() {
     word(b"to_double:");
     convert(0);
     convert(1);
@@ -155,12 +115,8 @@ fn convert_exact() {
     convert(-9007199254740992);
     convert(4611686018427387904);
     convert(-4611686018427387904);
-    word(b"\n");
-}
-
-// Past 2^53: ties to the even double, up and down, and next to ties.
-fn convert_rounded() {
-    word(b"to_double:");
+    // past 2^53: ties to the even double, up and down, and next to ties
+    word(b"\nto_double:");
     convert(9007199254740993);
     convert(9007199254740995);
     convert(18014398509481986);
@@ -185,10 +141,12 @@ fn convert_rounded() {
     convert(-9223372036854775296);
     convert(i64::MAX);
     convert(i64::MIN);
-    word(b"\n");
+    newline();
 }
 
-fn finiteness() {
+fn finite_and_magnitude() {
+    let infinity = 1.0 / 0.0;
+    let nan = 0.0 / 0.0;
     word(b"is_finite:");
     finite(0.0);
     finite(-0.0);
@@ -198,14 +156,10 @@ fn finiteness() {
     finite(-LARGEST);
     finite(SMALLEST);
     finite(-SMALLEST);
-    finite(infinity());
-    finite(-infinity());
-    finite(nan());
-    word(b"\n");
-}
-
-fn magnitudes() {
-    word(b"magnitude:");
+    finite(infinity);
+    finite(-infinity);
+    finite(nan);
+    word(b"\nmagnitude:");
     magnitude(0.0);
     magnitude(-0.0);
     magnitude(1.5);
@@ -214,13 +168,15 @@ fn magnitudes() {
     magnitude(-LARGEST);
     magnitude(SMALLEST);
     magnitude(-SMALLEST);
-    magnitude(infinity());
-    magnitude(-infinity());
-    magnitude(nan());
-    word(b"\n");
+    magnitude(infinity);
+    magnitude(-infinity);
+    magnitude(nan);
+    newline();
 }
 
 fn larger_ones() {
+    let infinity = 1.0 / 0.0;
+    let nan = 0.0 / 0.0;
     word(b"max:");
     larger(1.5, 2.5);
     larger(2.5, 1.5);
@@ -228,16 +184,18 @@ fn larger_ones() {
     larger(0.0, -0.0);
     larger(-0.0, 0.0);
     larger(SMALLEST, 0.0);
-    larger(LARGEST, infinity());
-    larger(-infinity(), -LARGEST);
-    larger(nan(), 1.5);
-    larger(1.5, nan());
-    larger(nan(), -infinity());
-    larger(nan(), nan());
-    word(b"\n");
+    larger(LARGEST, infinity);
+    larger(-infinity, -LARGEST);
+    larger(nan, 1.5);
+    larger(1.5, nan);
+    larger(nan, -infinity);
+    larger(nan, nan);
+    newline();
 }
 
 fn precedences() {
+    let infinity = 1.0 / 0.0;
+    let nan = 0.0 / 0.0;
     word(b"precedes:");
     precedes(1.5, 2.5);
     precedes(2.5, 1.5);
@@ -249,19 +207,21 @@ fn precedences() {
     precedes(-0.0, -0.0);
     precedes(SMALLEST, 0.0);
     precedes(-SMALLEST, -0.0);
-    precedes(LARGEST, infinity());
-    precedes(-infinity(), -LARGEST);
-    precedes(-infinity(), infinity());
-    precedes(infinity(), infinity());
-    precedes(nan(), 1.5);
-    precedes(1.5, nan());
-    precedes(infinity(), nan());
-    precedes(nan(), -infinity());
-    precedes(nan(), nan());
-    word(b"\n");
+    precedes(LARGEST, infinity);
+    precedes(-infinity, -LARGEST);
+    precedes(-infinity, infinity);
+    precedes(infinity, infinity);
+    precedes(nan, 1.5);
+    precedes(1.5, nan);
+    precedes(infinity, nan);
+    precedes(nan, -infinity);
+    precedes(nan, nan);
+    newline();
 }
 
 fn comparisons() {
+    let infinity = 1.0 / 0.0;
+    let nan = 0.0 / 0.0;
     word(b"total_cmp:");
     compare(1.5, 2.5);
     compare(2.5, 1.5);
@@ -273,26 +233,22 @@ fn comparisons() {
     compare(-0.0, -0.0);
     compare(SMALLEST, 0.0);
     compare(-SMALLEST, -0.0);
-    compare(LARGEST, infinity());
-    compare(-infinity(), -LARGEST);
-    compare(-infinity(), infinity());
-    compare(infinity(), infinity());
-    compare(nan(), 1.5);
-    compare(1.5, nan());
-    compare(infinity(), nan());
-    compare(nan(), -infinity());
-    compare(nan(), nan());
-    word(b"\n");
+    compare(LARGEST, infinity);
+    compare(-infinity, -LARGEST);
+    compare(-infinity, infinity);
+    compare(infinity, infinity);
+    compare(nan, 1.5);
+    compare(1.5, nan);
+    compare(infinity, nan);
+    compare(nan, -infinity);
+    compare(nan, nan);
+    newline();
 }
 
 fn main() {
-    round_small();
-    round_large();
-    round_ends();
-    convert_exact();
-    convert_rounded();
-    finiteness();
-    magnitudes();
+    roundings();
+    conversions();
+    finite_and_magnitude();
     larger_ones();
     precedences();
     comparisons();

@@ -1,10 +1,10 @@
--- `children_test::integer` is proved: std's laws say that each step to a magnitude is defined. Assumes nothing.
+-- `printing::decimal` is proved: std's laws say that each step to a magnitude is defined. Assumes nothing.
 use lib.Dec.{lit≤}
 use mir.Syntax.{w64}
 use borrow.Author.Needs.{needs}
 use Rattle.std.proofs.num.Nearest.{Plain, Turned, plain, turn}
-use Rattle.children_test.proofs.integer.Statement.{statement}
-use Rattle.children_test.proofs.integer.Tie as tie
+use Rattle.printing.proofs.decimal.Statement.{statement}
+use Rattle.printing.proofs.decimal.Tie as tie
 
 not-negative : (c : tie.Then1) → Plain w64 (c .before .args .n)
 not-negative c = plain w64 (c .before .args .n) (lit≤ tt) (c .before .fits .n) (c .if1 .taken)
@@ -45,8 +45,8 @@ print-decimal-requires-2 c κs = search needs
 returns-2 : tie.Need-returns-2
 returns-2 c = search needs
 
-pub integer-spec : {M : Type 1} → statement M
-integer-spec =
+pub decimal-spec : {M : Type 1} → statement M
+decimal-spec =
     tie.close
     (tie.spec
     cast-print-decimal

@@ -1,9 +1,9 @@
--- `checks_test::double` is proved: the bits are asked only of a number that equals itself. Assumes nothing.
+-- `printing::bits` is proved: the bits are asked only of a number that equals itself. Assumes nothing.
 use mathlib.Core.Path.{sym, _∙_}
 use borrow.Author.Needs.{needs}
 use Rattle.rounding.proofs.Comparison.{failed, differs}
-use Rattle.checks_test.proofs.double.Statement.{statement}
-use Rattle.checks_test.proofs.double.Tie as tie
+use Rattle.printing.proofs.bits.Statement.{statement}
+use Rattle.printing.proofs.bits.Tie as tie
 
 slice-aggregate-word : tie.Need-slice-aggregate-word
 slice-aggregate-word c = search needs
@@ -23,6 +23,6 @@ print-hex-requires c κs = search needs
 returns-2 : tie.Need-returns-2
 returns-2 c = search needs
 
-pub double-spec : {M : Type 1} → statement M
-double-spec =
+pub bits-spec : {M : Type 1} → statement M
+bits-spec =
     tie.close (tie.spec slice-aggregate-word word-requires returns float-to-bits-print-hex print-hex-requires returns-2)

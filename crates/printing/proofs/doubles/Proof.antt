@@ -1,9 +1,9 @@
--- `babai_test::integers` is proved: it stays in its slice and ends. Assumes nothing.
+-- `printing::doubles` is proved: it stays in its slice and ends. Assumes nothing.
 use Prim.Native.Nat.{_≤_, _-_}
 use lib.ListN.{length}
 use borrow.Author.Needs.{needs}
-use Rattle.babai_test.proofs.integers.Statement.{statement}
-use Rattle.babai_test.proofs.integers.Tie as tie
+use Rattle.printing.proofs.doubles.Statement.{statement}
+use Rattle.printing.proofs.doubles.Tie as tie
 
 abbrev Inv-loop : tie.InvT-loop
 Inv-loop values i₀ t4 i = i ≤ length values
@@ -20,14 +20,14 @@ word-requires c κs = search needs
 loop-holds : tie.Need-loop-holds Inv-loop μ-loop
 loop-holds c = search needs
 
-mul-integer : tie.Need-mul-integer Inv-loop μ-loop
-mul-integer c = search needs
+mul-double : tie.Need-mul-double Inv-loop μ-loop
+mul-double c = search needs
 
-shared-slice-copy-out-integer : tie.Need-shared-slice-copy-out-integer Inv-loop μ-loop
-shared-slice-copy-out-integer c = search needs
+shared-slice-read-double : tie.Need-shared-slice-read-double Inv-loop μ-loop
+shared-slice-read-double c = search needs
 
-integer-requires : tie.Need-integer-requires Inv-loop μ-loop
-integer-requires c κs = search needs
+double-requires : tie.Need-double-requires Inv-loop μ-loop
+double-requires c κs = search needs
 
 add-i : tie.Need-add-i Inv-loop μ-loop
 add-i c = search needs
@@ -47,8 +47,8 @@ word-requires-2 c κs = search needs
 returns : tie.Need-returns Inv-loop μ-loop
 returns c = search needs
 
-pub integers-spec : {M : Type 1} → statement M
-integers-spec =
+pub doubles-spec : {M : Type 1} → statement M
+doubles-spec =
     tie.close
     (tie.spec
     Inv-loop
@@ -56,9 +56,9 @@ integers-spec =
     slice-aggregate-word
     word-requires
     loop-holds
-    mul-integer
-    shared-slice-copy-out-integer
-    integer-requires
+    mul-double
+    shared-slice-read-double
+    double-requires
     add-i
     loop-less
     loop-again
