@@ -1,0 +1,1 @@
+-- Nothing beyond the definitions of document 01 and the answers of `enumerate` is cited.
