@@ -13,8 +13,8 @@ use Rattle.definitions.specs.Nearest.{no-best, best, nearestWalk}
 use Rattle.definitions.specs.Listing.{ListPoint, listWalk, sorted}
 use Rattle.definitions.specs.Seeds.{widened}
 use Rattle.definitions.specs.Refusals.{Refusal, budgetExhausted, outsideRadius, noSeed, listFull}
-use Rattle.definitions.specs.Checks.{Verdict, pass, refuse, handedOn}
-use Rattle.definitions.specs.Calls.{Answer, found, refused, after, NearestPoint, endOfNearest, nearestChecks, nearest, widenedSearch, seededChecks, nearestSeeded, mlRadius, mlChecks, nearestMl, nearestOutput, ListAnswer, endOfList, listChecks, list, written, coordinates, listDistances, listPoints}
+use Rattle.definitions.specs.Checks.{Verdict, pass, refuse, firstRefusal, handedOn}
+use Rattle.definitions.specs.Calls.{Answer, found, refused, after, NearestPoint, endOfNearest, checksOfNearest, nearestChecks, nearest, widenedSearch, checksOfSeeded, seededChecks, nearestSeeded, mlRadius, checksOfMl, mlChecks, nearestMl, nearestOutput, ListAnswer, endOfList, checksOfList, listChecks, list, written, coordinates, listDistances, listPoints, checksOfRound, round, checksOfPlane, plane}
 
 pub after-pass : {A : Type 0} (v : Verdict) (a : Answer A) → v ≡ pass → after v a ≡ a
 unfolding after
@@ -47,6 +47,10 @@ unfolding nearestOutput
 output-refused e out = refl
 
 module _ (t : Table) (target : List Float) (out : List ℤ) (R : Float) (budget : ℕ) where
+  pub nearest-checks-are : nearestChecks t target out R budget ≡ firstRefusal (checksOfNearest t target out R budget)
+  unfolding nearestChecks
+  nearest-checks-are = refl
+
   pub nearest-is : nearest t target out R budget ≡ after (nearestChecks t target out R budget) (endOfNearest (outsideRadius (handedOn R)) (nearestWalk t target (handedOn R) budget))
   unfolding nearest
   nearest-is = refl
@@ -63,6 +67,10 @@ unfolding widenedSearch
 widened-search-is t target R budget = refl
 
 module _ (t : Table) (target : List Float) (out candidate : List ℤ) (R : Float) (budget : ℕ) where
+  pub seeded-checks-are : seededChecks t target out candidate R budget ≡ firstRefusal (checksOfSeeded t target out candidate R budget)
+  unfolding seededChecks
+  seeded-checks-are = refl
+
   pub seeded-is : nearestSeeded t target out candidate R budget ≡ after (seededChecks t target out candidate R budget) (widenedSearch t target (handedOn R) budget)
   unfolding nearestSeeded
   seeded-is = refl
@@ -74,6 +82,10 @@ module _ (t : Table) (target : List Float) (out candidate : List ℤ) (R : Float
   seeded-refused e q = seeded-is ∙ after-refuse (seededChecks t target out candidate R budget) (widenedSearch t target (handedOn R) budget) e q
 
 module _ (t : Table) (target : List Float) (out : List ℤ) (budget : ℕ) where
+  pub ml-checks-are : mlChecks t target out budget ≡ firstRefusal (checksOfMl t target out budget)
+  unfolding mlChecks
+  ml-checks-are = refl
+
   pub ml-is : nearestMl t target out budget ≡ after (mlChecks t target out budget) (widenedSearch t target (mlRadius t target) budget)
   unfolding nearestMl
   ml-is = refl
@@ -125,6 +137,10 @@ unfolding coordinates
 coordinates-cons p ps = refl
 
 module _ (t : Table) (target : List Float) (distances : List Float) (points : List ℤ) (R : Float) (budget : ℕ) where
+  pub list-checks-are : listChecks t target distances points R budget ≡ firstRefusal (checksOfList t target distances points R budget)
+  unfolding listChecks
+  list-checks-are = refl
+
   pub list-is : list t target distances points R budget ≡ after (listChecks t target distances points R budget) (endOfList (length distances) (listWalk t target (handedOn R) budget))
   unfolding list
   list-is = refl
@@ -134,3 +150,12 @@ module _ (t : Table) (target : List Float) (distances : List Float) (points : Li
 
   pub list-refused : (e : Refusal) → listChecks t target distances points R budget ≡ refuse e → list t target distances points R budget ≡ refused e
   list-refused e q = list-is ∙ after-refuse (listChecks t target distances points R budget) (endOfList (length distances) (listWalk t target (handedOn R) budget)) e q
+
+-- ---- round, nearest_plane
+pub round-is : (coefficients : List Float) (out : List ℤ) → round coefficients out ≡ firstRefusal (checksOfRound coefficients out)
+unfolding round
+round-is coefficients out = refl
+
+pub plane-is : (t : Table) (coefficients : List Float) (out : List ℤ) → plane t coefficients out ≡ firstRefusal (checksOfPlane t coefficients out)
+unfolding plane
+plane-is t coefficients out = refl

@@ -45,9 +45,12 @@ searchChecks t target out =
     ++ lengthCheck (dimension t) (length target) ∷ lengthCheck (dimension t) (length out) ∷ targetCheck target ∷ []
 
 -- and 8, 9
+abbrev pub checksOfNearest : Table → List Float → List ℤ → Float → ℕ → List Verdict
+checksOfNearest t target out R budget = searchChecks t target out ++ radiusCheck R ∷ budgetCheck budget ∷ []
+
 unfoldable pub nearestChecks : Table → List Float → List ℤ → Float → ℕ → Verdict
 unfolding firstRefusal searchChecks radiusCheck
-nearestChecks t target out R budget = firstRefusal (searchChecks t target out ++ radiusCheck R ∷ budgetCheck budget ∷ [])
+nearestChecks t target out R budget = firstRefusal (checksOfNearest t target out R budget)
 
 -- `nearest`: "a plain nearest without one ends with 16"
 unfoldable pub nearest : Table → List Float → List ℤ → Float → ℕ → Answer NearestPoint
@@ -63,18 +66,20 @@ widenedSearch t target R budget =
     let radius = widened (dimension t) R in endOfNearest (noSeed radius) (nearestWalk t target radius budget)
 
 -- 2 to 9, then 10 to 13
-unfoldable pub seededChecks : Table → List Float → List ℤ → List ℤ → Float → ℕ → Verdict
-unfolding firstRefusal searchChecks radiusCheck candidateOutsideCheck partial widened
-seededChecks t target out candidate R budget =
-    firstRefusal
-    (searchChecks t target out
+abbrev pub checksOfSeeded : Table → List Float → List ℤ → List ℤ → Float → ℕ → List Verdict
+checksOfSeeded t target out candidate R budget =
+    searchChecks t target out
     ++ radiusCheck R
     ∷ budgetCheck budget
     ∷ candidateLengthCheck (dimension t) (length candidate)
     ∷ candidateDistanceCheck (distance t target candidate)
     ∷ candidateOutsideCheck (handedOn R) (distance t target candidate)
     ∷ widenedRadiusCheck (widened (dimension t) (handedOn R))
-    ∷ [])
+    ∷ []
+
+unfoldable pub seededChecks : Table → List Float → List ℤ → List ℤ → Float → ℕ → Verdict
+unfolding firstRefusal searchChecks radiusCheck candidateOutsideCheck partial widened
+seededChecks t target out candidate R budget = firstRefusal (checksOfSeeded t target out candidate R budget)
 
 -- `nearest_seeded`
 unfoldable pub nearestSeeded : Table → List Float → List ℤ → List ℤ → Float → ℕ → Answer NearestPoint
@@ -88,15 +93,17 @@ unfolding nearestPlane partial
 mlRadius t target = distance t target (nearestPlane t target .point)
 
 -- 2 to 7 and 9, then 11 and 13
-unfoldable pub mlChecks : Table → List Float → List ℤ → ℕ → Verdict
-unfolding firstRefusal searchChecks mlRadius widened
-mlChecks t target out budget =
-    firstRefusal
-    (searchChecks t target out
+abbrev pub checksOfMl : Table → List Float → List ℤ → ℕ → List Verdict
+checksOfMl t target out budget =
+    searchChecks t target out
     ++ budgetCheck budget
     ∷ candidateDistanceCheck (mlRadius t target)
     ∷ widenedRadiusCheck (widened (dimension t) (mlRadius t target))
-    ∷ [])
+    ∷ []
+
+unfoldable pub mlChecks : Table → List Float → List ℤ → ℕ → Verdict
+unfolding firstRefusal searchChecks mlRadius widened
+mlChecks t target out budget = firstRefusal (checksOfMl t target out budget)
 
 -- `nearest_ml`
 unfoldable pub nearestMl : Table → List Float → List ℤ → ℕ → Answer NearestPoint
@@ -123,17 +130,19 @@ endOfList places (ended points standing nodes) =
     cond (ltb places (length points)) (refused (listFull (length points))) (found (record { nodes = nodes; points = sorted points }))
 
 -- 2 to 5, 6 (target), 7, 8, 9, 14
-unfoldable pub listChecks : Table → List Float → List Float → List ℤ → Float → ℕ → Verdict
-unfolding firstRefusal tableChecks targetCheck radiusCheck
-listChecks t target distances points R budget =
-    firstRefusal
-    (tableChecks largestDimension t
+abbrev pub checksOfList : Table → List Float → List Float → List ℤ → Float → ℕ → List Verdict
+checksOfList t target distances points R budget =
+    tableChecks largestDimension t
     ++ lengthCheck (dimension t) (length target)
     ∷ targetCheck target
     ∷ radiusCheck R
     ∷ budgetCheck budget
     ∷ listSizeCheck (dimension t) (length distances) (length points)
-    ∷ [])
+    ∷ []
+
+unfoldable pub listChecks : Table → List Float → List Float → List ℤ → Float → ℕ → Verdict
+unfolding firstRefusal tableChecks targetCheck radiusCheck
+listChecks t target distances points R budget = firstRefusal (checksOfList t target distances points R budget)
 
 -- `list`
 unfoldable pub list : Table → List Float → List Float → List ℤ → Float → ℕ → Answer ListAnswer
@@ -163,25 +172,32 @@ listPoints (refused e) points = points
 
 -- ---- round, nearest_plane
 
--- `round`: 6 ("output against coefficients"), then 7 without the limit
+-- 6 ("output against coefficients"), then 7 without the limit
+abbrev pub checksOfRound : List Float → List ℤ → List Verdict
+checksOfRound coefficients out = lengthCheck (length coefficients) (length out) ∷ finiteCheck coefficients ∷ []
+
+-- `round`
 unfoldable pub round : List Float → List ℤ → Verdict
 unfolding firstRefusal finiteCheck
-round coefficients out = firstRefusal (lengthCheck (length coefficients) (length out) ∷ finiteCheck coefficients ∷ [])
+round coefficients out = firstRefusal (checksOfRound coefficients out)
 
 -- its output at exit
 unfoldable pub roundOutput : Verdict → List Float → List ℤ → List ℤ
 roundOutput pass coefficients out = rounded coefficients
 roundOutput (refuse e) coefficients out = out
 
--- `nearest_plane`: 2 to 5, 6, then 7 without the limit
-unfoldable pub plane : Table → List Float → List ℤ → Verdict
-unfolding firstRefusal tableChecks finiteCheck
-plane t coefficients out =
-    firstRefusal
-    (tableChecks largestDimension t
+-- 2 to 5, 6, then 7 without the limit
+abbrev pub checksOfPlane : Table → List Float → List ℤ → List Verdict
+checksOfPlane t coefficients out =
+    tableChecks largestDimension t
     ++ planeLengthCheck (dimension t) (length coefficients) (length out)
     ∷ finiteCheck coefficients
-    ∷ [])
+    ∷ []
+
+-- `nearest_plane`
+unfoldable pub plane : Table → List Float → List ℤ → Verdict
+unfolding firstRefusal tableChecks finiteCheck
+plane t coefficients out = firstRefusal (checksOfPlane t coefficients out)
 
 -- its output at exit
 unfoldable pub planeOutput : Verdict → Table → List Float → List ℤ → List ℤ

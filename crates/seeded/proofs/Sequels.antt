@@ -9,7 +9,7 @@ use Rattle.definitions.specs.Table.{Table, dimension}
 use Rattle.definitions.specs.Distance.{distance}
 use Rattle.definitions.specs.Seeds.{nearestPlane, widened}
 use Rattle.definitions.specs.Checks.{Verdict, firstRefusal, radiusCheck, handedOn, budgetCheck, candidateLengthCheck, candidateDistanceCheck, candidateOutsideCheck, widenedRadiusCheck}
-use Rattle.definitions.specs.Calls.{searchChecks, nearestChecks, seededChecks, mlRadius, mlChecks}
+use Rattle.definitions.specs.Calls.{searchChecks, checksOfNearest, seededChecks, mlRadius, mlChecks}
 
 -- 10 to 13
 abbrev pub candidateChecks : Table → List Float → List ℤ → Float → List Verdict
@@ -25,15 +25,7 @@ abbrev pub totalChecks : ℕ → Float → List Verdict
 totalChecks n R = candidateDistanceCheck R ∷ widenedRadiusCheck (widened n R) ∷ []
 
 module _ (t : Table) (target : List Float) (out : List ℤ) (budget : ℕ) where
-  -- 2 to 9
-  abbrev pub callChecks : Float → List Verdict
-  callChecks R = searchChecks t target out ++ radiusCheck R ∷ budgetCheck budget ∷ []
-
-  pub nearest-checks-are : (R : Float) → nearestChecks t target out R budget ≡ firstRefusal (callChecks R)
-  unfolding nearestChecks
-  nearest-checks-are R = refl
-
-  pub seeded-cut : (candidate : List ℤ) (R : Float) → firstRefusal (callChecks R ++ candidateChecks t target candidate R) ≡ seededChecks t target out candidate R budget
+  pub seeded-cut : (candidate : List ℤ) (R : Float) → firstRefusal (checksOfNearest t target out R budget ++ candidateChecks t target candidate R) ≡ seededChecks t target out candidate R budget
   unfolding seededChecks
   seeded-cut candidate R = ap firstRefusal (append-assoc (searchChecks t target out) (radiusCheck R ∷ budgetCheck budget ∷ []) (candidateChecks t target candidate R))
 

@@ -27,8 +27,11 @@ pub mod Seeded
 pub mod Listing
 pub mod Orders
 pub mod Sorting
+-- ---- the checks
+pub mod FirstRefusal
 -- ---- the calls
 pub mod Endings
 pub mod NearestCall
 pub mod ListCall
 pub mod WidenedCalls
+pub mod RefusedCalls

@@ -5,3 +5,4 @@ pub mod Children
 pub mod Prefixes
 pub mod Unbudgeted
 pub mod Ordered
+pub mod Refusals

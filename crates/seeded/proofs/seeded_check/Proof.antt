@@ -8,11 +8,12 @@ use Rattle.definitions.specs.Table.{table, dimension}
 use Rattle.definitions.specs.Distance.{distance}
 use Rattle.definitions.specs.Seeds.{widened}
 use Rattle.definitions.specs.Checks.{firstRefusal, handedOn, candidateLengthCheck, candidateDistanceCheck, candidateOutsideCheck, widenedRadiusCheck}
-use Rattle.definitions.specs.Calls.{seededChecks}
+use Rattle.definitions.specs.Calls.{checksOfNearest, seededChecks}
 use Rattle.definitions.proofs.Passed.{NearestPassed, nearest-passed, candidate-length-passed}
+use Rattle.definitions.proofs.Answers.{nearest-checks-are}
 use Rattle.refusals.specs.Numbers.{verdict}
 use Rattle.checks.proofs.Sequence.{alone, stops, goes-on}
-use Rattle.seeded.proofs.Sequels.{callChecks, candidateChecks, nearest-checks-are, seeded-cut}
+use Rattle.seeded.proofs.Sequels.{candidateChecks, seeded-cut}
 use borrow.Author.Needs.{needs}
 use Rattle.seeded.proofs.seeded_check.Statement.{statement}
 use Rattle.seeded.proofs.seeded_check.Tie as tie
@@ -25,7 +26,7 @@ after-call c =
     let at = c .before .before in
     let a = at .before .before .before .before .args in
     let t = table (a .weights .now) (a .mu .now) in
-    goes-on (at .nearest-check .result) (callChecks t (a .target .now) (a .out .now) (a .budget) (a .radius)) (at .nearest-check .ensures ∙ nearest-checks-are t (a .target .now) (a .out .now) (a .budget) (a .radius)) (c .enum-told2 .given .1) (candidateChecks t (a .target .now) (a .candidate .now) (a .radius))
+    goes-on (at .nearest-check .result) (checksOfNearest t (a .target .now) (a .out .now) (a .radius) (a .budget)) (at .nearest-check .ensures ∙ nearest-checks-are t (a .target .now) (a .out .now) (a .radius) (a .budget)) (c .enum-told2 .given .1) (candidateChecks t (a .target .now) (a .candidate .now) (a .radius))
     ∙ seeded-cut t (a .target .now) (a .out .now) (a .budget) (a .candidate .now) (a .radius)
 
 call-passed : (c : tie.After-enum-told2) →
@@ -47,7 +48,7 @@ returns c =
     let at = c .before .before in
     let a = at .before .before .before .before .args in
     let t = table (a .weights .now) (a .mu .now) in
-    stops (at .nearest-check .result) (callChecks t (a .target .now) (a .out .now) (a .budget) (a .radius)) (at .nearest-check .ensures ∙ nearest-checks-are t (a .target .now) (a .out .now) (a .budget) (a .radius)) (c .enum-told .given .1) (candidateChecks t (a .target .now) (a .candidate .now) (a .radius))
+    stops (at .nearest-check .result) (checksOfNearest t (a .target .now) (a .out .now) (a .radius) (a .budget)) (at .nearest-check .ensures ∙ nearest-checks-are t (a .target .now) (a .out .now) (a .radius) (a .budget)) (c .enum-told .given .1) (candidateChecks t (a .target .now) (a .candidate .now) (a .radius))
     ∙ seeded-cut t (a .target .now) (a .out .now) (a .budget) (a .candidate .now) (a .radius)
 
 enum-told-2 : tie.Need-enum-told-2
