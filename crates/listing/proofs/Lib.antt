@@ -1,0 +1,10 @@
+-- Laws that the proofs of the functions cite.
+pub mod Walks
+pub mod Writing
+pub mod Coordinates
+pub mod Places
+pub mod Doubles
+pub mod Found
+pub mod Ordering
+pub mod Endings
+pub mod Repeats

@@ -1,0 +1,316 @@
+// The list of the integer vectors within a radius.
+ghost use mathlib.Core.Path.{_≡_};
+ghost use mathlib.Core.List.{List, reverse, map};
+ghost use Prim.Native.Nat.{ℕ, _+_, _*_, _≤_, _^_, min};
+ghost use lib.ListN.{length, getD, take, drop};
+ghost use lib.Seq.{paste};
+ghost use lib.Ieee.{Float, nan};
+ghost use Rattle.definitions.specs.Table.{table};
+ghost use Rattle.definitions.specs.Walk.{ended};
+ghost use Rattle.definitions.specs.Listing.{ListPoint, listWalk};
+ghost use Rattle.definitions.specs.Checks.{pass};
+ghost use Rattle.definitions.specs.Calls.{written, coordinates};
+ghost use Rattle.definitions.specs.Calls as C;
+ghost use Rattle.refusals.specs.Numbers.{verdict};
+ghost use Rattle.sorting.specs.Rows.{row, rows};
+ghost use Rattle.sorting.specs.Indices.{AllBelow};
+ghost use Rattle.listing.specs.View.{answerOf, countsOf, endingOf, sortedPlaces};
+use checks::budget_check;
+use checks::handed_on;
+use checks::length_check;
+use checks::list_size_check;
+use checks::radius_check;
+use checks::table_check;
+use checks::target_check;
+use refusals::Refusal;
+use refusals::Verdict;
+use search::begun;
+use search::run;
+use sorting::identity;
+use sorting::sort;
+
+const LARGEST_DIMENSION: usize = 23;
+
+// What a list gives beside the slices that it writes: the number of nodes, and of points.
+pub struct ListFound {
+    pub nodes: u64,
+    pub points: usize,
+}
+
+// The answer of a list.
+pub enum ListAnswer {
+    Found(ListFound),
+    Refused(Refusal),
+}
+
+// How a list walk ended: with so many nodes and points, or out of budget with the nodes and the radius.
+pub enum ListEnding {
+    Ended(u64, u64),
+    Exhausted(u64, f64),
+}
+
+// The checks of `list`: 2 to 9 and 14.
+fn list_check(
+    weights: &[f64],
+    mu: &[f64],
+    target: &[f64],
+    distances: &[f64],
+    points: &[i64],
+    radius: f64,
+    budget: u64,
+) -> Verdict
+    ensures { λ r. ⌜ verdict r ≡ C.listChecks (table (now (weights .entry)) (now (mu .entry))) (now (target .entry)) (now (distances .entry)) (now (points .entry)) radius budget ⌝ }
+{
+    let whole = table_check(LARGEST_DIMENSION, weights, mu);
+    if let Verdict::Refuse(_) = whole {
+        return whole;
+    }
+    let lengths = length_check(weights.len(), target.len());
+    if let Verdict::Refuse(_) = lengths {
+        return lengths;
+    }
+    let targets = target_check(target);
+    if let Verdict::Refuse(_) = targets {
+        return targets;
+    }
+    let bounded = radius_check(radius);
+    if let Verdict::Refuse(_) = bounded {
+        return bounded;
+    }
+    let paid = budget_check(budget);
+    if let Verdict::Refuse(_) = paid {
+        return paid;
+    }
+    list_size_check(weights.len(), distances.len(), points.len())
+}
+
+// The list walk over a table and a target that passed their checks. The points found go to the slices in the order of
+// finding, as far as there are places.
+fn list_walk(
+    weights: &[f64],
+    mu: &[f64],
+    target: &[f64],
+    distances: &mut [f64],
+    points: &mut [i64],
+    radius: f64,
+    budget: u64,
+) -> ListEnding
+    requires { ⌜ length (now weights) ≤ 23 ⌝ }
+    requires { ⌜ length (now mu) ≡ length (now weights) * length (now weights) ⌝ }
+    requires { ⌜ length (now target) ≡ length (now weights) ⌝ }
+    requires { ⌜ length (now distances) ≤ 4096 ⌝ }
+    requires { ⌜ length (now points) ≡ length (now distances) * length (now weights) ⌝ }
+    requires { ⌜ budget ≤ 2 ^ 60 ⌝ }
+    ensures { λ r. ⌜ r ≡ endingOf (listWalk (table (now (weights .entry)) (now (mu .entry))) (now (target .entry)) radius budget) ⌝ }
+    ensures { λ r. ⌜ ((ps : List ListPoint) (R : Float) (m : ℕ) → listWalk (table (now (weights .entry)) (now (mu .entry))) (now (target .entry)) radius budget ≡ ended ps R m → rows (length (now (weights .entry))) (min (length ps) (length (now (distances .entry)))) (now (distances .exit)) (now (points .exit)) ≡ take (length (now (distances .entry))) (reverse ps)) ⌝ }
+    ensures { λ r. ⌜ length (now (distances .exit)) ≡ length (now (distances .entry)) ⌝ }
+    ensures { λ r. ⌜ length (now (points .exit)) ≡ length (now (points .entry)) ⌝ }
+{
+    let mut rest = [0.0; 23];
+    let end = run(
+        mu,
+        weights,
+        target,
+        &mut rest,
+        distances,
+        points,
+        true,
+        budget,
+        weights.len(),
+        0.0,
+        begun(radius),
+    );
+    if end.exhausted {
+        return ListEnding::Exhausted(end.nodes, end.radius);
+    }
+    ListEnding::Ended(end.nodes, end.listed)
+}
+
+// Writes the distances at the places of order, in that order, over the first ones.
+fn write_distances(found: &[f64], order: &[usize], distances: &mut [f64])
+    requires { ⌜ length (now order) ≤ length (now distances) ⌝ }
+    requires { ⌜ AllBelow (length (now found)) (now order) ⌝ }
+    ensures { λ r. ⌜ now (distances .exit) ≡ written (map (λ (i : ℕ). getD (now (found .entry)) i nan) (now (order .entry))) (now (distances .entry)) ⌝ }
+{
+    let mut i = 0;
+    while i < order.len() {
+        let place = order[i];
+        distances[i] = found[place];
+        i += 1;
+    }
+}
+
+// Writes the n coordinates of `found` from an index on over those of `points` from `at` on.
+fn write_row(found: &[i64], from: usize, n: usize, at: usize, points: &mut [i64])
+    requires { ⌜ from + n ≤ length (now found) ⌝ }
+    requires { ⌜ at + n ≤ length (now points) ⌝ }
+    ensures { λ r. ⌜ now (points .exit) ≡ paste (now (points .entry)) at (drop from (now (found .entry))) n ⌝ }
+{
+    let mut i = 0;
+    while i < n {
+        points[at + i] = found[from + i];
+        i += 1;
+    }
+}
+
+// Writes the coordinates of the points at the places of order, in that order, over the first ones.
+fn write_points(found: &[i64], order: &[usize], n: usize, points: &mut [i64])
+    requires { ⌜ length (now found) ≡ length (now order) * n ⌝ }
+    requires { ⌜ length (now found) ≤ length (now points) ⌝ }
+    requires { ⌜ AllBelow (length (now order)) (now order) ⌝ }
+    ensures { λ r. ⌜ ((ds : List Float) → now (points .exit) ≡ written (coordinates (map (row n ds (now (found .entry))) (now (order .entry)))) (now (points .entry))) ⌝ }
+{
+    let mut i = 0;
+    while i < order.len() {
+        let place = order[i];
+        write_row(found, place * n, n, i * n, points);
+        i += 1;
+    }
+}
+
+// Sorts what was found by the list's order and writes it over the first places. Order and spare are room for the sort;
+// what is left in them says nothing.
+fn write_list(
+    measured: &[f64],
+    vectors: &[i64],
+    n: usize,
+    order: &mut [usize],
+    spare: &mut [usize],
+    distances: &mut [f64],
+    points: &mut [i64],
+)
+    requires { ⌜ n ≤ 64 ⌝ }
+    requires { ⌜ length (now measured) ≤ 4096 ⌝ }
+    requires { ⌜ length (now vectors) ≡ length (now measured) * n ⌝ }
+    requires { ⌜ length (now order) ≡ length (now measured) ⌝ }
+    requires { ⌜ length (now spare) ≡ length (now measured) ⌝ }
+    requires { ⌜ length (now measured) ≤ length (now distances) ⌝ }
+    requires { ⌜ length (now vectors) ≤ length (now points) ⌝ }
+    ensures { λ r. ⌜ now (distances .exit) ≡ written (map (λ (i : ℕ). getD (now (measured .entry)) i nan) (sortedPlaces n (now (measured .entry)) (now (vectors .entry)))) (now (distances .entry)) ⌝ }
+    ensures { λ r. ⌜ now (points .exit) ≡ written (coordinates (map (row n (now (measured .entry)) (now (vectors .entry))) (sortedPlaces n (now (measured .entry)) (now (vectors .entry))))) (now (points .entry)) ⌝ }
+{
+    identity(order);
+    sort(measured, vectors, n, order, spare);
+    write_distances(measured, order, distances);
+    write_points(vectors, order, n, points);
+}
+
+// `write_list` of the first k points of those found.
+fn write_first(
+    measured: &[f64],
+    vectors: &[i64],
+    n: usize,
+    k: usize,
+    order: &mut [usize],
+    spare: &mut [usize],
+    distances: &mut [f64],
+    points: &mut [i64],
+)
+    requires { ⌜ n ≤ 64 ⌝ }
+    requires { ⌜ k ≤ 4096 ⌝ }
+    requires { ⌜ k ≤ length (now measured) ⌝ }
+    requires { ⌜ length (now vectors) ≡ length (now measured) * n ⌝ }
+    requires { ⌜ k ≤ length (now order) ⌝ }
+    requires { ⌜ k ≤ length (now spare) ⌝ }
+    requires { ⌜ k ≤ length (now distances) ⌝ }
+    requires { ⌜ k * n ≤ length (now points) ⌝ }
+    ensures { λ r. ⌜ now (distances .exit) ≡ written (map (λ (i : ℕ). getD (take k (now (measured .entry))) i nan) (sortedPlaces n (take k (now (measured .entry))) (take (k * n) (now (vectors .entry))))) (now (distances .entry)) ⌝ }
+    ensures { λ r. ⌜ now (points .exit) ≡ written (coordinates (map (row n (take k (now (measured .entry))) (take (k * n) (now (vectors .entry)))) (sortedPlaces n (take k (now (measured .entry))) (take (k * n) (now (vectors .entry)))))) (now (points .entry)) ⌝ }
+{
+    let size = k * n;
+    write_list(
+        &measured[..k],
+        &vectors[..size],
+        n,
+        &mut order[..k],
+        &mut spare[..k],
+        distances,
+        points,
+    );
+}
+
+// `list` once its checks have passed. What is found goes to measured and vectors; order and spare are room for the sort.
+fn list_into(
+    weights: &[f64],
+    mu: &[f64],
+    target: &[f64],
+    measured: &mut [f64],
+    vectors: &mut [i64],
+    order: &mut [usize],
+    spare: &mut [usize],
+    distances: &mut [f64],
+    points: &mut [i64],
+    radius: f64,
+    budget: u64,
+) -> ListAnswer
+    requires { ⌜ C.listChecks (table (now weights) (now mu)) (now target) (now distances) (now points) radius budget ≡ pass ⌝ }
+    requires { ⌜ length (now measured) ≡ length (now distances) ⌝ }
+    requires { ⌜ length (now vectors) ≡ length (now points) ⌝ }
+    requires { ⌜ length (now order) ≡ length (now distances) ⌝ }
+    requires { ⌜ length (now spare) ≡ length (now distances) ⌝ }
+    ensures { λ r. ⌜ answerOf r ≡ countsOf (C.list (table (now (weights .entry)) (now (mu .entry))) (now (target .entry)) (now (distances .entry)) (now (points .entry)) radius budget) ⌝ }
+    ensures { λ r. ⌜ now (distances .exit) ≡ C.listDistances (C.list (table (now (weights .entry)) (now (mu .entry))) (now (target .entry)) (now (distances .entry)) (now (points .entry)) radius budget) (now (distances .entry)) ⌝ }
+    ensures { λ r. ⌜ now (points .exit) ≡ C.listPoints (C.list (table (now (weights .entry)) (now (mu .entry))) (now (target .entry)) (now (distances .entry)) (now (points .entry)) radius budget) (now (points .entry)) ⌝ }
+{
+    let n = weights.len();
+    let end = list_walk(weights, mu, target, measured, vectors, radius, budget);
+    match end {
+        ListEnding::Exhausted(nodes, standing) => {
+            return ListAnswer::Refused(Refusal::BudgetExhausted(nodes, standing));
+        }
+        ListEnding::Ended(nodes, count) => {
+            let k = count as usize;
+            if k > distances.len() {
+                return ListAnswer::Refused(Refusal::ListFull(k));
+            }
+            write_first(measured, vectors, n, k, order, spare, distances, points);
+            return ListAnswer::Found(ListFound { nodes, points: k });
+        }
+    }
+}
+
+// Lists every integer vector that is admitted at the radius, by distance and then coordinates: the distances go to
+// `distances`, n coordinates for each to `points`. The answer has the number of nodes and of points. Places after the
+// last point keep their contents.
+//
+// Refused: 2 to 9, the table and the call; 14, over 4,096 distances, or points not n times as many (distances' length);
+// 15, the budget ran out (nodes, the radius); 18, more points than places (points). A refusal leaves both slices as
+// they were. The call needs about 0.9 MB of stack.
+pub fn list(
+    weights: &[f64],
+    mu: &[f64],
+    target: &[f64],
+    distances: &mut [f64],
+    points: &mut [i64],
+    radius: f64,
+    budget: u64,
+) -> ListAnswer
+    ensures { λ r. ⌜ answerOf r ≡ countsOf (C.list (table (now (weights .entry)) (now (mu .entry))) (now (target .entry)) (now (distances .entry)) (now (points .entry)) radius budget) ⌝ }
+    ensures { λ r. ⌜ now (distances .exit) ≡ C.listDistances (C.list (table (now (weights .entry)) (now (mu .entry))) (now (target .entry)) (now (distances .entry)) (now (points .entry)) radius budget) (now (distances .entry)) ⌝ }
+    ensures { λ r. ⌜ now (points .exit) ≡ C.listPoints (C.list (table (now (weights .entry)) (now (mu .entry))) (now (target .entry)) (now (distances .entry)) (now (points .entry)) radius budget) (now (points .entry)) ⌝ }
+{
+    let checked = list_check(weights, mu, target, distances, points, radius, budget);
+    if let Verdict::Refuse(e) = checked {
+        return ListAnswer::Refused(e);
+    }
+    let start = handed_on(radius);
+    let places = distances.len();
+    let size = points.len();
+    let mut measured = [0.0; 4096];
+    let mut vectors = [0i64; 94208];
+    let mut order = [0usize; 4096];
+    let mut spare = [0usize; 4096];
+    list_into(
+        weights,
+        mu,
+        target,
+        &mut measured[..places],
+        &mut vectors[..size],
+        &mut order[..places],
+        &mut spare[..places],
+        distances,
+        points,
+        start,
+        budget,
+    )
+}
