@@ -5,7 +5,7 @@ ghost use mathlib.Core.Bool.{false};
 ghost use Prim.Native.Nat.{_<_, _^_};
 ghost use lib.Dec.{T};
 ghost use lib.IntN.{pos, negℤ};
-ghost use lib.Ieee.{fin, lt, neg};
+ghost use lib.Ieee.{binary64, ofBits, fin, lt, neg};
 ghost use lib.Ieee.Scale.{finite};
 ghost use Rattle.rounding.specs.Integers.{roundAway, toDouble};
 ghost use Rattle.rounding.specs.Doubles as D;
@@ -104,6 +104,16 @@ pub fn max(x: f64, y: f64) -> f64
         return y;
     }
     x
+}
+
+// The double of a bit pattern, a NaN for each of a NaN's patterns: those that are, but for the sign, above infinity's.
+pub fn from_bits(bits: u64) -> f64
+    ensures { λ r. ⌜ r ≡ ofBits binary64 bits ⌝ }
+{
+    if bits % 9223372036854775808 > 9218868437227405312 {
+        return 0.0 / 0.0;
+    }
+    f64::from_bits(bits)
 }
 
 // Whether the sign of x is minus, as minus zero's is; false of a NaN. A zero's sign shows in its reciprocal.

@@ -84,16 +84,19 @@ module _ (t : Table) (target : List Float) (limits : Limits t target) (R : Float
       not-T (lt (widened (dimension t) R) plusZero)
       (λ l. not-le-of-lt (lt→ord binary64 (number wide) (zero-nonneg .num) l) (subst (λ (k : ℕ). k ≤ ord binary64 (widened (dimension t) R)) (sym (ord-zero binary64 false (pos 0))) (le-trans (mid-of-not-lt (number fin) plus) (le-of-lt (above h)))))
 
-  -- a candidate within the radius is admitted at the widened radius
+  -- the widened radius is strictly above the distance of a candidate within the radius
+  pub candidate-below : 0 < dimension t → (z : List ℤ) → T (isVector t z) → T (not (lt R (distance t target z))) → T (lt (distance t target z) (widened (dimension t) R))
+  candidate-below p z v h =
+      let n = distance-nonneg t target limits z v .num in
+      ord→lt binary64 n (number wide) (lt-of-le-of-lt (le→ord binary64 n (number fin) (not-lt→le binary64 (number fin) n h)) (above p))
+
+  -- so such a candidate is admitted at the widened radius
   pub candidate-admitted : (z : List ℤ) → T (isVector t z) → T (not (lt R (distance t target z))) → T (admitted t target (widened (dimension t) R) z)
   candidate-admitted z v h = go (eq-zero-or-pos (dimension t))
     where
       go : (dimension t ≡ 0) ⊎ (0 < dimension t) → T (admitted t target (widened (dimension t) R) z)
       go (inl e) = subst (λ (x : List ℤ). T (admitted t target (widened (dimension t) R) x)) (sym (only-empty z (vector-length t z v ∙ e))) (empty-nearest t target e (widened (dimension t) R) .admits)
-      go (inr p) =
-          let n = distance-nonneg t target limits z v .num in
-          below-admitted t target limits (widened (dimension t) R) wide z v
-          (ord→lt binary64 n (number wide) (lt-of-le-of-lt (le→ord binary64 n (number fin) (not-lt→le binary64 (number fin) n h)) (above p)))
+      go (inr p) = below-admitted t target limits (widened (dimension t) R) wide z v (candidate-below p z v h)
 
   -- so the search never ends with no best
   pub seeded-finds : (z : List ℤ) → T (isVector t z) → T (not (lt R (distance t target z))) → (budget : ℕ) (S : Float) (m : ℕ) → nearestWalk t target (widened (dimension t) R) budget ≡ ended no-best S m → ⊥

@@ -1,0 +1,102 @@
+//! The Rust original of the search, compiled unchanged from a folder outside this project (see `build.rs`), over a
+//! table that is handed in. No line of it stands here.
+
+// The original names its sister crate `lattica`: this crate answers to that name, with the modules of the stand-in.
+extern crate self as lattica;
+
+mod standin;
+pub use standin::{basis, error, gso, int, reduce};
+
+include!(concat!(env!("OUT_DIR"), "/root.rs"));
+
+mod lines;
+pub use lines::answer;
+
+use error::DecodeError;
+
+/// A search over a table: n weights, and n·n entries mu.
+pub type Enumerator = enumerate::Enumerator<i64>;
+
+/// `round_away`, which is private to the original.
+#[must_use]
+pub fn rounded_away(v: f64) -> i64 {
+    round_away(v)
+}
+
+/// A point and the nodes that its search opened.
+pub type Found = Result<(Vec<i64>, u64), DecodeError>;
+
+/// Points with their distances, and the nodes that their search opened.
+pub type Listed = Result<(Vec<(f64, Vec<i64>)>, u64), DecodeError>;
+
+/// `nearest` with an output of the given length.
+///
+/// # Errors
+///
+/// As the original; so in every function below.
+pub fn nearest(table: &Enumerator, target: &[f64], places: usize, radius: f64, budget: u64) -> Found {
+    let mut out = vec![0; places];
+    let nodes = table.nearest(target, &mut out, radius, budget, &mut enumerate::EnumerationScratch::new())?;
+    Ok((out, nodes))
+}
+
+/// `nearest_seeded` with an output of the given length.
+pub fn nearest_seeded(
+    table: &Enumerator,
+    target: &[f64],
+    places: usize,
+    candidate: &[i64],
+    radius: f64,
+    budget: u64,
+) -> Found {
+    let mut out = vec![0; places];
+    let scratch = &mut enumerate::EnumerationScratch::new();
+    let nodes = table.nearest_seeded(target, &mut out, candidate, radius, budget, scratch)?;
+    Ok((out, nodes))
+}
+
+/// `nearest_ml` with an output of the given length.
+pub fn nearest_ml(table: &Enumerator, target: &[f64], places: usize, budget: u64) -> Found {
+    let mut out = vec![0; places];
+    let nodes = table.nearest_ml(target, &mut out, budget, &mut enumerate::EnumerationScratch::new())?;
+    Ok((out, nodes))
+}
+
+/// The points of `list` with their distances, and the nodes of its walk: the least budget that it accepts.
+pub fn list(table: &Enumerator, target: &[f64], radius: f64, budget: u64) -> Listed {
+    let listed = |budget| table.list(target, radius, budget, &mut enumerate::EnumerationScratch::new());
+    let points = listed(budget)?.iter().map(|p| (p.distance_sq(), p.point().to_vec())).collect();
+    let (mut refused, mut accepted) = (None, 0);
+    while accepted < budget && listed(accepted).is_err() {
+        refused = Some(accepted);
+        accepted = budget.min(2 * accepted + 1);
+    }
+    while let Some(below) = refused.filter(|below| below + 1 < accepted) {
+        let middle = below + (accepted - below) / 2;
+        if listed(middle).is_ok() {
+            accepted = middle;
+        } else {
+            refused = Some(middle);
+        }
+    }
+    Ok((points, accepted))
+}
+
+/// `round` with an output of the given length.
+pub fn round(coefficients: &[f64], places: usize) -> Result<Vec<i64>, DecodeError> {
+    let mut out = vec![0; places];
+    babai::round(coefficients, &mut out)?;
+    Ok(out)
+}
+
+/// `nearest_plane` with an output of the given length: the point, and what is left in the coefficients.
+pub fn nearest_plane(
+    table: &Enumerator,
+    coefficients: &[f64],
+    places: usize,
+) -> Result<(Vec<i64>, Vec<f64>), DecodeError> {
+    let mut left = coefficients.to_vec();
+    let mut out = vec![0; places];
+    babai::nearest_plane(table.gso(), &mut left, &mut out)?;
+    Ok((out, left))
+}

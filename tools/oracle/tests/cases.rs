@@ -1,0 +1,100 @@
+//! Document 01's bench cases A to L. L's budget of 2^60 + 1 is left out: the original does not have refusal 9.
+
+use oracle::error::DecodeError::{self, BudgetExhausted, InvalidRadius, NonFinite, OutsideRadius};
+use oracle::{Enumerator, list, nearest, nearest_ml, nearest_plane, nearest_seeded, round, rounded_away};
+
+const ULP: f64 = f64::EPSILON;
+const LIMIT: f64 = 4_503_599_627_370_496.0;
+
+fn one(weight: f64) -> Enumerator {
+    Enumerator::from_table(&[weight], &[0.0])
+}
+
+fn two(weights: [f64; 2], entry: f64) -> Enumerator {
+    Enumerator::from_table(&weights, &[f64::NAN, f64::NAN, entry, f64::NAN])
+}
+
+fn is<T: PartialEq + std::fmt::Debug>(found: Result<T, DecodeError>, expected: T) {
+    assert_eq!(found, Ok(expected));
+}
+
+fn refused<T: PartialEq + std::fmt::Debug>(found: Result<T, DecodeError>, expected: DecodeError) {
+    assert_eq!(found, Err(expected));
+}
+
+#[test]
+fn a() {
+    let table = Enumerator::from_table(&[], &[]);
+    is(nearest(&table, &[], 0, 0.0, 0), (vec![], 0));
+    is(list(&table, &[], 0.0, 0), (vec![(0.0, vec![])], 0));
+}
+
+#[test]
+fn b_to_d() {
+    is(nearest(&one(4.0), &[0.75], 1, 0.25, 1), (vec![1], 1));
+    refused(nearest(&one(4.0), &[0.75], 1, 0.125, 0), OutsideRadius { radius_sq: 0.125 });
+    refused(nearest(&one(4.0), &[0.75], 1, 0.25, 0), BudgetExhausted { nodes: 0, radius_sq: 0.25 });
+}
+
+#[test]
+fn e_and_f() {
+    is(nearest(&one(1.0), &[0.5], 1, 1.0, 2), (vec![0], 2));
+    refused(nearest(&one(1.0), &[0.5], 1, 1.0, 1), BudgetExhausted { nodes: 1, radius_sq: 0.25 });
+    refused(list(&one(1.0), &[0.5], 1.0, 1), BudgetExhausted { nodes: 1, radius_sq: 1.0 });
+}
+
+#[test]
+fn g() {
+    let table = two([1.0, 1.0], 0.5);
+    let target = [0.25, 0.5];
+    let points =
+        vec![(0.25, vec![0, 1]), (0.5, vec![0, 0]), (0.5, vec![1, 0]), (1.25, vec![-1, 1]), (1.25, vec![1, 1])];
+    is(nearest(&table, &target, 2, 2.0, 100), (vec![0, 1], 5));
+    is(list(&table, &target, 2.0, 100), (points, 7));
+    is(nearest_ml(&table, &target, 2, 100), (vec![0, 1], 3));
+    is(nearest_plane(&table, &target, 2), (vec![0, 1], vec![0.25, -0.5]));
+}
+
+#[test]
+fn h_and_i() {
+    let table = two([2.0 * ULP, 4.0], 0.0);
+    let target = [0.5, 0.5];
+    refused(nearest(&table, &target, 2, 1.0, 2), OutsideRadius { radius_sq: 1.0 });
+    for point in [[0, 0], [0, 1], [1, 0], [1, 1]] {
+        is(table.triangular_distance(&target, &point), 1.0);
+    }
+    let radius = 1.0 + ULP;
+    is(nearest(&table, &target, 2, radius, 4), (vec![0, 1], 4));
+    refused(list(&table, &target, radius, 4), BudgetExhausted { nodes: 4, radius_sq: radius });
+    let points = [[0, 0], [0, 1], [1, 0], [1, 1]].map(|z| (1.0, z.to_vec())).to_vec();
+    is(list(&table, &target, radius, 6), (points, 6));
+}
+
+#[test]
+fn j() {
+    let halves = [0.5, -0.5, -2.5, 2.0 * 4_611_686_018_427_387_904.0];
+    assert_eq!(halves.map(rounded_away), [1, -1, -3, i64::MAX]);
+    is(round(&halves, 4), vec![1, -1, -3, i64::MAX]);
+}
+
+#[test]
+fn k() {
+    is(nearest(&one(1.0), &[LIMIT], 1, 0.0, 1), (vec![1 << 52], 1));
+    refused(nearest(&one(1.0), &[LIMIT + 1.0], 1, 0.0, 1), NonFinite { index: 0 });
+}
+
+#[test]
+fn l() {
+    let table = one(1.0);
+    refused(nearest_seeded(&table, &[0.5], 1, &[2], 2.0, 100), InvalidRadius { radius_sq: 2.0 });
+    is(nearest_seeded(&table, &[0.5], 1, &[2], 2.25, 100), (vec![0], 4));
+}
+
+#[test]
+fn lines() {
+    let case = "nearest 1 3ff0000000000000 0000000000000000 3fe0000000000000 3ff0000000000000";
+    assert_eq!(oracle::answer(&format!("{case} 2 -")), "found 2 [ 0 ]");
+    assert_eq!(oracle::answer(&format!("{case} 1 -")), "BudgetExhausted(1, 3fd0000000000000)");
+    assert_eq!(oracle::answer(&format!("{case} 1 - 2")), "LengthMismatch(1, 2)");
+    assert_eq!(oracle::answer(&format!("{case} two -")), "malformed budget: two");
+}
