@@ -1,2 +1,4 @@
 -- Laws that several proofs cite.
 pub mod Numbers
+pub mod Sections
+pub mod Items

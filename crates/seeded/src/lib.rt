@@ -31,7 +31,7 @@ use rounding::to_double;
 const EPSILON: f64 = 2.220446049250313e-16;
 
 // radius + (2^-52·max(radius, 1))·4n, rounded in that order.
-pub fn widened_radius(n: usize, radius: f64) -> f64
+fn widened_radius(n: usize, radius: f64) -> f64
     requires { ⌜ n ≤ 64 ⌝ }
     ensures { λ r. ⌜ r ≡ widened n radius ⌝ }
 {

@@ -2,7 +2,7 @@
 use mathlib.Core.Path.{_≡_, ap, sym, _∙_}
 use Prim.Native.Nat.{ℕ, suc, _+_, _-_, _*_, _^_, _≤_, _<_}
 use native.Mathlib.Omega.{arith}
-use lib.ListN.{length, getD}
+use lib.ListN.{getD}
 use Rattle.definitions.specs.JobLayout.{numberAt}
 use borrow.Author.Needs.{needs}
 use Rattle.reading.proofs.Numbers.{number-none, number-more, few-bytes, more-bound}
@@ -74,7 +74,9 @@ returns c =
     let l = at .loop in
     let a = at .before .args in
     let done : l .left ≡ 0 = omega arith in
-    l .inv .1 ∙ ap (λ (j : ℕ). numberAt (a .input .now) j (a .size - l .left)) (omega arith) ∙ ap (numberAt (a .input .now) (a .offset)) (omega arith)
+    let all : a .size - l .left ≡ a .size = omega arith in
+    let value = l .inv .1 ∙ ap (λ (j : ℕ). numberAt (a .input .now) j (a .size - l .left)) (omega arith) ∙ ap (numberAt (a .input .now) (a .offset)) all in
+    (value, omega (arith, l .inv .2, ap (λ (j : ℕ). 2 ^ (8 * j)) all))
 
 pub number-at-spec : {M : Type 1} → statement M
 number-at-spec =

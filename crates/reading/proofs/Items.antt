@@ -1,0 +1,20 @@
+-- A section's items one after another, as doubles. Assumes nothing.
+use mathlib.Core.Path.{_≡_, refl, ap, _∙_}
+use mathlib.Core.List.{List, [], _∷_, _++_}
+use Prim.Native.Nat.{ℕ, zero, suc, _+_, _*_}
+use native.Mathlib.Omega.{arith}
+use lib.Ieee.{Float, binary64, ofBits}
+use Rattle.definitions.specs.JobLayout.{numberAt, itemsAt, doubles}
+
+pub no-doubles : (input : List ℕ) (offset : ℕ) → doubles (itemsAt input offset 0) ≡ []
+unfolding itemsAt
+no-doubles input offset = refl
+
+-- one more, after the others
+pub more-doubles : (input : List ℕ) (offset k : ℕ) → doubles (itemsAt input offset (suc k)) ≡ doubles (itemsAt input offset k) ++ ofBits binary64 (numberAt input (offset + 8 * k) 8) ∷ []
+unfolding itemsAt
+more-doubles input offset zero = let here : offset ≡ offset + 8 * 0 = omega arith in ap (λ (o : ℕ). ofBits binary64 (numberAt input o 8) ∷ []) here
+more-doubles input offset (suc k) =
+    let there : offset + 8 + 8 * k ≡ offset + 8 * suc k = omega arith in
+    ap (λ (xs : List Float). ofBits binary64 (numberAt input offset 8) ∷ xs) (more-doubles input (offset + 8) k)
+    ∙ ap (λ (o : ℕ). ofBits binary64 (numberAt input offset 8) ∷ (doubles (itemsAt input (offset + 8) k) ++ ofBits binary64 (numberAt input o 8) ∷ [])) there
