@@ -31,6 +31,7 @@ pub mod Sorting
 pub mod FirstRefusal
 -- ---- the calls
 pub mod Endings
+pub mod EndsAsWalk
 pub mod NearestCall
 pub mod ListCall
 pub mod WidenedCalls
