@@ -1,0 +1,785 @@
+// What `list` answers and leaves in the slices that it is lent. Each line of the output has a case's name, then `found`
+// with the nodes and the points, or the refusal's number with what it carries in brackets, then the distances at exit,
+// as the 16 hexadecimal digits of their bits, and the points at exit, each in square brackets. Before the call the
+// distances are negative and the points are above 100, and so they must be after a refusal and past the last point.
+// Where a case parts document 01 from another reading, its comment names that.
+//
+// The expected output of every call that the Rust knows is the Rust's: this program compiled as Rust, with the oracle
+// in the place of the crate `listing` (tools/oracle/examples/listing_test.rs). The lines of refusals 2 to 5, 9, 14 and
+// 18, which the Rust does not have, are document 01's.
+use listing::ListAnswer;
+use refusals::Verdict;
+
+const LARGEST: f64 = 1.7976931348623157e308;
+
+const SMALLEST: f64 = 5e-324;
+
+// 2^52 and the next double.
+const LIMIT: f64 = 4503599627370496.0;
+
+const BEYOND: f64 = 4503599627370497.0;
+
+// The largest budget, 2^60.
+const MOST: u64 = 1152921504606846976;
+
+const EVERY: u64 = 18446744073709551615;
+
+fn infinity() -> f64 {
+    1.0 / 0.0
+}
+
+fn nan() -> f64 {
+    0.0 / 0.0
+}
+
+fn answered(answer: ListAnswer) {
+    match answer {
+        ListAnswer::Found(list) => {
+            printing::word(b" found ");
+            io::print_decimal(1, list.nodes);
+            printing::word(b" ");
+            io::print_decimal(1, list.points as u64);
+        }
+        ListAnswer::Refused(e) => printing::verdict(Verdict::Refuse(e)),
+    }
+}
+
+fn list(
+    name: &[u8],
+    weights: &[f64],
+    mu: &[f64],
+    target: &[f64],
+    distances: &mut [f64],
+    points: &mut [i64],
+    radius: f64,
+    budget: u64,
+) {
+    printing::word(name);
+    answered(listing::list(weights, mu, target, distances, points, radius, budget));
+    printing::doubles(distances);
+    printing::integers(points);
+    printing::newline();
+}
+
+fn one(name: &[u8], weight: f64, target: f64, radius: f64, budget: u64) {
+    let weights = [weight];
+    let mu = [nan()];
+    let targets = [target];
+    let mut distances = [-1.0, -2.0, -3.0, -4.0, -5.0];
+    let mut points = [101, 102, 103, 104, 105];
+    list(
+        name,
+        &weights,
+        &mu,
+        &targets,
+        &mut distances,
+        &mut points,
+        radius,
+        budget,
+    );
+}
+
+// Only the entry at 2 is read.
+fn two_into(
+    name: &[u8],
+    weights: [f64; 2],
+    entry: f64,
+    target: [f64; 2],
+    distances: &mut [f64],
+    points: &mut [i64],
+    radius: f64,
+    budget: u64,
+) {
+    let mu = [nan(), -infinity(), entry, LARGEST];
+    list(
+        name,
+        &weights,
+        &mu,
+        &target,
+        distances,
+        points,
+        radius,
+        budget,
+    );
+}
+
+// Six places.
+fn two(name: &[u8], weights: [f64; 2], entry: f64, target: [f64; 2], radius: f64, budget: u64) {
+    let mut distances = [-1.0, -2.0, -3.0, -4.0, -5.0, -6.0];
+    let mut points = [101, 102, 103, 104, 105, 106, 107, 108, 109, 110, 111, 112];
+    two_into(
+        name,
+        weights,
+        entry,
+        target,
+        &mut distances,
+        &mut points,
+        radius,
+        budget,
+    );
+}
+
+// The entries are those at 3, 6 and 7.
+fn three_into(
+    name: &[u8],
+    weights: [f64; 3],
+    entries: [f64; 3],
+    target: [f64; 3],
+    distances: &mut [f64],
+    points: &mut [i64],
+    radius: f64,
+    budget: u64,
+) {
+    let mu = [
+        nan(),
+        -LARGEST,
+        nan(),
+        entries[0],
+        infinity(),
+        nan(),
+        entries[1],
+        entries[2],
+        nan(),
+    ];
+    list(
+        name,
+        &weights,
+        &mu,
+        &target,
+        distances,
+        points,
+        radius,
+        budget,
+    );
+}
+
+// Nine places.
+fn three(
+    name: &[u8],
+    weights: [f64; 3],
+    entries: [f64; 3],
+    target: [f64; 3],
+    radius: f64,
+    budget: u64,
+) {
+    let mut distances = [-1.0, -2.0, -3.0, -4.0, -5.0, -6.0, -7.0, -8.0, -9.0];
+    let mut points = [103; 27];
+    three_into(
+        name,
+        weights,
+        entries,
+        target,
+        &mut distances,
+        &mut points,
+        radius,
+        budget,
+    );
+}
+
+// ---- document 01's cases
+
+fn no_dimension(name: &[u8], distances: &mut [f64], points: &mut [i64], radius: f64, budget: u64) {
+    let none = [0.0; 0];
+    list(name, &none, &none, &none, distances, points, radius, budget);
+}
+
+// One point of no coordinates. Its distance is plus zero, also where the radius is minus zero.
+fn dimension_zero() {
+    let mut none = [0.0; 0];
+    let mut single = [-1.0];
+    let mut again = [-1.0];
+    let mut several = [-1.0, -2.0, -3.0];
+    let mut no_points = [0i64; 0];
+    no_dimension(b"A:", &mut single, &mut no_points, 0.0, 0);
+    no_dimension(b"A, radius -0:", &mut again, &mut no_points, -0.0, 0);
+    no_dimension(
+        b"A, more places:",
+        &mut several,
+        &mut no_points,
+        LARGEST,
+        MOST,
+    );
+    no_dimension(b"A, no place:", &mut none, &mut no_points, 0.0, 0);
+}
+
+// Other readings: a shrinking radius, at F and G; a node early or late out of budget, at B, D, E and F; out of budget
+// before the first test, at C.
+fn cases_of_one() {
+    one(b"B:", 4.0, 0.75, 0.25, 1);
+    one(b"C:", 4.0, 0.75, 0.125, 0);
+    one(b"D:", 4.0, 0.75, 0.25, 0);
+    one(b"E:", 1.0, 0.5, 1.0, 2);
+    one(b"F:", 1.0, 0.5, 1.0, 1);
+    one(b"K:", 1.0, LIMIT, 0.0, 1);
+    one(b"K past the limit:", 1.0, BEYOND, 0.0, 1);
+}
+
+// The weight and the radii of H and I: 2^-51, 1, 1 + 2^-52. Other readings: no first test, at H.
+fn cases_of_two() {
+    let halves = [0.5, 0.5];
+    let weights = [4.440892098500626e-16, 4.0];
+    two(b"G:", [1.0, 1.0], 0.5, [0.25, 0.5], 2.0, 100);
+    two(b"G, 7 nodes:", [1.0, 1.0], 0.5, [0.25, 0.5], 2.0, 7);
+    two(b"G, 6 nodes:", [1.0, 1.0], 0.5, [0.25, 0.5], 2.0, 6);
+    two(b"H:", weights, 0.0, halves, 1.0, 2);
+    two(b"H, 1 node:", weights, 0.0, halves, 1.0, 1);
+    two(b"I:", weights, 0.0, halves, 1.0000000000000002, 6);
+    two(b"I, 5 nodes:", weights, 0.0, halves, 1.0000000000000002, 5);
+}
+
+// ---- the order
+
+// Other readings: compared from the last coordinate; the order of the walk; by magnitude; the larger first. At `next to
+// a tie` the target is 0.5 + 2^-53, and the larger point is nearer by little.
+fn equals() {
+    let ones = [1.0, 1.0];
+    two(b"four equal:", ones, 0.0, [0.5, 0.5], 0.5, 100);
+    two(b"four equal, negative:", ones, 0.0, [-0.5, -0.5], 0.5, 100);
+    two(b"four equal, both signs:", ones, 0.0, [0.0, 0.0], 1.0, 100);
+    two(b"with an entry:", [4.0, 4.0], 1.5, [0.5, 1.5], 2.0, 100);
+    two(
+        b"equal at two distances:",
+        ones,
+        -0.5,
+        [0.25, -0.5],
+        2.0,
+        100,
+    );
+    one(b"pairs:", 1.0, -0.5, 2.25, 100);
+    one(b"next to a tie:", 1.0, 0.5000000000000001, 1.0, 100);
+    three(
+        b"eight equal:",
+        [1.0, 1.0, 1.0],
+        [0.0, 0.0, 0.0],
+        [0.5, -0.5, 0.5],
+        0.75,
+        100,
+    );
+}
+
+// ---- the places
+
+// Five points, in places of every number. Before 18 the whole list is walked for the budget, and with no point there
+// is no 18.
+fn places(name: &[u8], distances: &mut [f64], points: &mut [i64], budget: u64) {
+    two_into(
+        name,
+        [1.0, 1.0],
+        0.5,
+        [0.25, 0.5],
+        distances,
+        points,
+        2.0,
+        budget,
+    );
+}
+
+// Other readings: 18 with the number of places, or with one more; 18 as soon as the places are full; the first points
+// written.
+fn full() {
+    let mut none = [0.0; 0];
+    let mut no_points = [0i64; 0];
+    let mut one_distance = [-1.0];
+    let mut two_points = [101, 102];
+    let mut four = [-1.0, -2.0, -3.0, -4.0];
+    let mut eight = [101, 102, 103, 104, 105, 106, 107, 108];
+    let mut five = [-1.0, -2.0, -3.0, -4.0, -5.0];
+    let mut ten = [101, 102, 103, 104, 105, 106, 107, 108, 109, 110];
+    places(b"no place, 6 nodes:", &mut none, &mut no_points, 6);
+    places(b"no place:", &mut none, &mut no_points, 7);
+    places(
+        b"one place, 6 nodes:",
+        &mut one_distance,
+        &mut two_points,
+        6,
+    );
+    places(b"one place:", &mut one_distance, &mut two_points, 7);
+    places(b"four places, no budget:", &mut four, &mut eight, 0);
+    places(b"four places, 6 nodes:", &mut four, &mut eight, 6);
+    places(b"four places:", &mut four, &mut eight, 7);
+    places(b"five places, 6 nodes:", &mut five, &mut ten, 6);
+    places(b"five places:", &mut five, &mut ten, 7);
+}
+
+fn no_point() {
+    let mut none = [0.0; 0];
+    let mut no_points = [0i64; 0];
+    let weights = [4.0, 4.0];
+    let target = [0.75, 0.75];
+    two(b"no point:", weights, 0.0, target, 0.125, 0);
+    two(b"no point, a node:", weights, 0.0, target, 0.25, 1);
+    two_into(
+        b"no point, no place:",
+        weights,
+        0.0,
+        target,
+        &mut none,
+        &mut no_points,
+        0.25,
+        1,
+    );
+    two_into(
+        b"no point, no place, no budget:",
+        weights,
+        0.0,
+        target,
+        &mut none,
+        &mut no_points,
+        0.25,
+        0,
+    );
+}
+
+// ---- the two tests
+
+// Other readings: the call's R for R - partial, at `first test`; no second test at level 0, where the weights are
+// 4 + 2^-49 and 1.5, the target 2^-26 and the radius 1 + 3·2^-52; R - partial exact, where a target is 2^-27.
+fn tests() {
+    let weights = [4.000000000000002, 1.5];
+    let target = [0.5, 1.4901161193847656e-8];
+    let near = [0.5, 7.450580596923828e-9];
+    two(b"first test:", [0.8, 3.0], 0.4, [2.0, 2.5], 0.8, 100);
+    two(b"second test:", weights, 0.0, target, 1.0000000000000007, 3);
+    two(b"rounded upward:", [4.0, 1.0], 0.0, near, 1.0, 100);
+}
+
+// Other readings: pruning where a term or a sum equals its bound, at `every bound met`; a direction left out.
+fn directions() {
+    two(b"every bound met:", [4.0, 1.0], 1.5, [2.5, 3.0], 1.0, 100);
+    one(b"upward only:", 1.0, 0.25, 0.75, 100);
+    one(b"downward only:", 1.0, -0.25, 0.75, 100);
+    one(b"five points:", 1.0, 0.25, 5.1, 100);
+}
+
+// Other readings: levels summed upward; a centre's products added from j = n-1 down, or its target last; a product fused
+// with its addition; t·mu - z·mu; weight·(d·d).
+fn sums() {
+    three(
+        b"levels downward:",
+        [0.6, 1.8, 0.2],
+        [0.8, 1.0, -0.1],
+        [0.5, 2.5, 0.5],
+        0.7,
+        100,
+    );
+    three(
+        b"center rising:",
+        [1.2, 0.8, 2.5],
+        [-1.0, 0.3, 0.0],
+        [-1.0, 1.5, 1.6],
+        1.9,
+        100,
+    );
+    three(
+        b"center not fused:",
+        [1.1, 3.0, 2.4],
+        [0.9, -0.9, -0.7],
+        [2.5, -1.9, 0.1],
+        2.2,
+        100,
+    );
+    two(b"partial not fused:", [2.2, 1.7], 0.8, [0.0, 0.5], 2.8, 100);
+    two(b"difference first:", [2.7, 1.5], 0.3, [0.5, 2.5], 1.5, 100);
+    one(b"weight first:", 2.1, 0.45, 5.1, 100);
+}
+
+// ---- the ends of the domain
+
+fn ends() {
+    let ones = [1.0, 1.0];
+    one(b"radius -0:", 2.0, 3.0, -0.0, 1);
+    one(b"radius -0, no node:", 2.0, 3.0, -0.0, 0);
+    one(b"radius -0, two points:", SMALLEST, 0.5, -0.0, 2);
+    one(b"smallest radius:", SMALLEST, 0.75, SMALLEST, 100);
+    one(b"largest radius:", LARGEST, 0.25, LARGEST, 100);
+    one(b"largest radius, 50 nodes:", 1.0, 0.25, LARGEST, 50);
+    one(b"target 2^52:", 1.0, LIMIT, 4.0, 100);
+    one(b"target -2^52:", 1.0, -LIMIT, 4.0, 100);
+    one(b"target 2^52 - 0.5:", 1.0, 4503599627370495.5, 2.25, 100);
+    one(b"target 0.5 - 2^52:", 1.0, -4503599627370495.5, 2.25, 100);
+    two(b"targets 2^52:", ones, 0.0, [LIMIT, -LIMIT], 1.0, 100);
+    two(
+        b"targets 2^52, entry 2^52:",
+        ones,
+        LIMIT,
+        [-LIMIT, LIMIT],
+        0.5,
+        100,
+    );
+    one(b"budget 2^60:", 1.0, 0.5, 1.0, MOST);
+    one(b"budget 2^60 + 1:", 1.0, 0.5, 1.0, MOST + 1);
+}
+
+// ---- many points
+
+// The sum of the values, each times its place counted from 1.
+fn weighed(values: &[f64]) -> f64 {
+    let mut sum = 0.0;
+    let mut place = 0.0;
+    let mut i = 0;
+    while i < values.len() {
+        place += 1.0;
+        sum += place * values[i];
+        i += 1;
+    }
+    sum
+}
+
+// The same of integers.
+fn weighed_integers(values: &[i64]) -> f64 {
+    let mut sum = 0.0;
+    let mut place = 0.0;
+    let mut i = 0;
+    while i < values.len() {
+        place += 1.0;
+        sum += place * rounding::to_double(values[i]);
+        i += 1;
+    }
+    sum
+}
+
+fn first_distances(values: &[f64], k: usize) {
+    if k <= values.len() {
+        printing::doubles(&values[0..k]);
+    }
+}
+
+fn last_distances(values: &[f64], k: usize) {
+    if k <= values.len() {
+        printing::doubles(&values[values.len() - k..]);
+    }
+}
+
+fn first_coordinates(values: &[i64], k: usize) {
+    if k <= values.len() {
+        printing::integers(&values[0..k]);
+    }
+}
+
+fn last_coordinates(values: &[i64], k: usize) {
+    if k <= values.len() {
+        printing::integers(&values[values.len() - k..]);
+    }
+}
+
+// For the slices stand the first and the last few distances and coordinates.
+fn few(
+    name: &[u8],
+    weights: &[f64],
+    mu: &[f64],
+    target: &[f64],
+    distances: &mut [f64],
+    points: &mut [i64],
+    radius: f64,
+    budget: u64,
+    shown: usize,
+    coordinates: usize,
+) {
+    printing::word(name);
+    answered(listing::list(weights, mu, target, distances, points, radius, budget));
+    first_distances(distances, shown);
+    first_coordinates(points, coordinates);
+    last_distances(distances, shown);
+    last_coordinates(points, coordinates);
+    printing::newline();
+}
+
+// The same, with the weighed sums before them. Each of these is exact.
+fn summed(
+    name: &[u8],
+    weights: &[f64],
+    mu: &[f64],
+    target: &[f64],
+    distances: &mut [f64],
+    points: &mut [i64],
+    radius: f64,
+    budget: u64,
+    shown: usize,
+    coordinates: usize,
+) {
+    printing::word(name);
+    answered(listing::list(weights, mu, target, distances, points, radius, budget));
+    printing::double(weighed(distances));
+    printing::double(weighed_integers(points));
+    first_distances(distances, shown);
+    first_coordinates(points, coordinates);
+    last_distances(distances, shown);
+    last_coordinates(points, coordinates);
+    printing::newline();
+}
+
+// Pairs of equal points. Every place is taken.
+fn line() {
+    let weights = [1.0];
+    let mu = [0.0];
+    let target = [0.5];
+    let mut distances = [-1.0; 4096];
+    let mut points = [103; 4096];
+    summed(
+        b"4096 in a line:",
+        &weights,
+        &mu,
+        &target,
+        &mut distances,
+        &mut points,
+        4192256.25,
+        4096,
+        3,
+        3,
+    );
+}
+
+fn disc() {
+    let weights = [1.0, 1.0];
+    let mu = [0.0, 0.0, 0.5, 0.0];
+    let target = [0.25, 0.5];
+    let mut distances = [-1.0; 64];
+    let mut points = [103; 128];
+    summed(
+        b"disc:",
+        &weights,
+        &mu,
+        &target,
+        &mut distances,
+        &mut points,
+        19.0,
+        1000,
+        8,
+        16,
+    );
+}
+
+// Every place is taken, and all points are equal.
+fn equal() {
+    let weights = [1.0; 5];
+    let mu = [0.0; 25];
+    let target = [0.5; 5];
+    let mut distances = [-1.0; 32];
+    let mut points = [103; 160];
+    summed(
+        b"32 equal:",
+        &weights,
+        &mu,
+        &target,
+        &mut distances,
+        &mut points,
+        1.25,
+        1000,
+        2,
+        10,
+    );
+}
+
+// Eight points.
+fn dimension_23() {
+    let weights = [1.0; 23];
+    let mu = [0.0; 529];
+    let mut target = [0.125; 23];
+    target[0] = 0.5;
+    target[11] = -0.5;
+    target[22] = 0.5;
+    let mut distances = [-1.0; 9];
+    let mut points = [103; 207];
+    list(
+        b"dimension 23:",
+        &weights,
+        &mu,
+        &target,
+        &mut distances,
+        &mut points,
+        1.0625,
+        94,
+    );
+}
+
+// Level 0 has its centre at -2^63 and at 2^63, with 513 and 512 children that share a double, and all are equal. Other
+// readings: coordinates compared by their difference, or as doubles.
+fn both_ends() {
+    let weights = [1.0, 1.0, 1.0];
+    let mu = [0.0, 0.0, 0.0, 4096.0, 0.0, 0.0, 0.0, LIMIT, 0.0];
+    let target = [0.0, 0.0, 0.5];
+    let mut distances = [-1.0; 1025];
+    let mut points = [103; 3075];
+    few(
+        b"both ends of i64:",
+        &weights,
+        &mu,
+        &target,
+        &mut distances,
+        &mut points,
+        0.25,
+        2000,
+        2,
+        6,
+    );
+}
+
+fn many() {
+    line();
+    disc();
+    equal();
+    dimension_23();
+    both_ends();
+}
+
+// ---- the refusals' order: each call below is also wrong for a later one
+
+// The target's length, the radius, the budget and the number of points are wrong too.
+fn table(name: &[u8], weights: &[f64], mu: &[f64]) {
+    let target = [nan(), 1.5];
+    let mut distances = [-1.0, -2.0];
+    let mut points = [101, 102, 103];
+    list(
+        name,
+        weights,
+        mu,
+        &target,
+        &mut distances,
+        &mut points,
+        -1.0,
+        EVERY,
+    );
+}
+
+fn tables() {
+    let weights = [1.0, 0.0, nan()];
+    let weights_24 = [0.0; 24];
+    let mu_8 = [nan(); 8];
+    let mu_576 = [nan(); 576];
+    let mu_3 = [0.0, 0.0, 0.0, BEYOND, 0.0, 0.0, 1.0, nan(), 0.0];
+    let mu_4 = [0.0, 0.0, 0.0, LIMIT, 0.0, 0.0, -BEYOND, BEYOND, 0.0];
+    let mu_5 = [nan(), nan(), nan(), LIMIT, nan(), nan(), -LIMIT, 1.0, nan()];
+    table(b"2 fewer entries:", &weights, &mu_8);
+    table(b"2 more weights:", &weights_24, &mu_576);
+    table(b"3:", &weights, &mu_3);
+    table(b"4:", &weights, &mu_4);
+    table(b"5:", &weights, &mu_5);
+}
+
+// Two distances, three points and dimension 2, so 14 is due at the end.
+fn call(name: &[u8], target: &[f64], radius: f64, budget: u64) {
+    let weights = [1.0, 1.0];
+    let mu = [nan(), nan(), 0.5, nan()];
+    let mut distances = [-1.0, -2.0];
+    let mut points = [101, 102, 103];
+    list(
+        name,
+        &weights,
+        &mu,
+        target,
+        &mut distances,
+        &mut points,
+        radius,
+        budget,
+    );
+}
+
+fn calls() {
+    let shorter = [nan()];
+    let longer = [0.0, 0.0, nan()];
+    let not_finite = [LIMIT, -infinity()];
+    let beyond = [-BEYOND, nan()];
+    let target = [LIMIT, -LIMIT];
+    call(b"6 fewer targets:", &shorter, -1.0, EVERY);
+    call(b"6 more targets:", &longer, -1.0, EVERY);
+    call(b"7 infinite:", &not_finite, -1.0, EVERY);
+    call(b"7 below:", &beyond, nan(), EVERY);
+    call(b"8 negative:", &target, -SMALLEST, EVERY);
+    call(b"8 infinite:", &target, infinity(), EVERY);
+    call(b"8 nan:", &target, nan(), EVERY);
+    call(b"9:", &target, 2.0, MOST + 1);
+    call(b"14 without budget:", &target, 2.0, 0);
+    call(b"14 without points:", &target, -0.0, MOST);
+}
+
+// ---- refusal 14
+
+// Four points within the radius, so 18 or 15 would come at the walk.
+fn sized(name: &[u8], distances: &mut [f64], points: &mut [i64]) {
+    two_into(name, [1.0, 1.0], 0.0, [0.5, 0.5], distances, points, 0.5, 5);
+}
+
+fn sizes() {
+    let mut none = [0.0; 0];
+    let mut three_distances = [-1.0, -2.0, -3.0];
+    let mut no_points = [0i64; 0];
+    let mut one_point = [101];
+    let mut three_points = [101, 102, 103];
+    let mut five_points = [101, 102, 103, 104, 105];
+    let mut seven_points = [101, 102, 103, 104, 105, 106, 107];
+    sized(b"14 fewer points:", &mut three_distances, &mut five_points);
+    sized(b"14 more points:", &mut three_distances, &mut seven_points);
+    sized(
+        b"14 as many points:",
+        &mut three_distances,
+        &mut three_points,
+    );
+    sized(b"14 no points:", &mut three_distances, &mut no_points);
+    sized(b"14 no distance:", &mut none, &mut one_point);
+    no_dimension(
+        b"14 n = 0:",
+        &mut three_distances,
+        &mut three_points,
+        0.0,
+        0,
+    );
+    no_dimension(b"14 n = 0, no distance:", &mut none, &mut one_point, 0.0, 0);
+}
+
+// One place more than the most, with as many points as are asked for.
+fn too_many() {
+    let weights = [1.0];
+    let mu = [0.0];
+    let target = [0.5];
+    let mut distances = [-1.0; 4097];
+    let mut points = [103; 4097];
+    few(
+        b"14 one too many:",
+        &weights,
+        &mu,
+        &target,
+        &mut distances,
+        &mut points,
+        1.0,
+        100,
+        2,
+        2,
+    );
+}
+
+fn too_many_of_none() {
+    let none = [0.0; 0];
+    let mut no_points = [0i64; 0];
+    let mut distances = [-1.0; 4097];
+    few(
+        b"14 one too many, n = 0:",
+        &none,
+        &none,
+        &none,
+        &mut distances,
+        &mut no_points,
+        0.0,
+        0,
+        2,
+        0,
+    );
+}
+
+fn main() {
+    dimension_zero();
+    cases_of_one();
+    cases_of_two();
+    equals();
+    full();
+    no_point();
+    tests();
+    directions();
+    sums();
+    ends();
+    many();
+    tables();
+    calls();
+    sizes();
+    too_many();
+    too_many_of_none();
+}

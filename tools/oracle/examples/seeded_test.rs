@@ -1,0 +1,73 @@
+//! The run test `seeded_test` as Rust, with the original in the place of the crate `seeded`: what it prints is what is
+//! stored in crates/seeded_test/stdout. Refusals 2 to 5 and 9, which the original does not have, are document 01's. By
+//! document 01 the original's LengthMismatch is 6 or 10, its InvalidRadius 8, 11, 12 or 13, its OutsideRadius 17.
+
+#![allow(dead_code, clippy::eq_op, clippy::zero_divided_by_zero, clippy::too_many_arguments)]
+
+mod common;
+use common::{io, printing, refusals};
+
+mod enumerate {
+    pub use super::common::NearestAnswer;
+}
+
+mod seeded {
+    use super::common;
+    use super::enumerate::NearestAnswer;
+    use super::refusals::Refusal;
+    use oracle::Enumerator;
+    use oracle::enumerate::EnumerationScratch;
+    use oracle::error::DecodeError;
+
+    /// 11, 12 or 13, by the candidate's distance. Each carries what the original's InvalidRadius carries.
+    fn candidate_fault(table: &Enumerator, target: &[f64], candidate: &[i64], radius: f64, carried: f64) -> Refusal {
+        match table.triangular_distance(target, candidate) {
+            Err(_) => Refusal::CandidateDistance(carried),
+            Ok(distance) if distance > radius => Refusal::CandidateOutside(carried),
+            Ok(_) => Refusal::WidenedRadius(carried),
+        }
+    }
+
+    pub fn nearest_seeded(
+        weights: &[f64],
+        mu: &[f64],
+        target: &[f64],
+        out: &mut [i64],
+        candidate: &[i64],
+        radius: f64,
+        budget: u64,
+    ) -> NearestAnswer {
+        let n = weights.len();
+        let fit = target.len() == n && out.len() == n;
+        let answer = common::answer(weights, mu, budget, None, |table, budget| {
+            let scratch = &mut EnumerationScratch::new();
+            table.nearest_seeded(target, out, candidate, radius, budget, scratch).map_err(|error| match error {
+                DecodeError::LengthMismatch { expected, found } if fit => Refusal::CandidateLength(expected, found),
+                DecodeError::InvalidRadius { radius_sq } if radius.is_finite() && radius >= 0.0 => {
+                    candidate_fault(table, target, candidate, radius, radius_sq)
+                }
+                DecodeError::OutsideRadius { radius_sq } => Refusal::NoSeed(radius_sq),
+                _ => common::refusal(error),
+            })
+        });
+        answer.into()
+    }
+
+    pub fn nearest_ml(weights: &[f64], mu: &[f64], target: &[f64], out: &mut [i64], budget: u64) -> NearestAnswer {
+        let answer = common::answer(weights, mu, budget, None, |table, budget| {
+            let scratch = &mut EnumerationScratch::new();
+            table.nearest_ml(target, out, budget, scratch).map_err(|error| match error {
+                DecodeError::InvalidRadius { radius_sq } => {
+                    // The radius is the seed's distance, so 12 does not arise.
+                    let (seed, _) = oracle::nearest_plane(table, target, target.len()).unwrap();
+                    candidate_fault(table, target, &seed, f64::INFINITY, radius_sq)
+                }
+                DecodeError::OutsideRadius { radius_sq } => Refusal::NoSeed(radius_sq),
+                _ => common::refusal(error),
+            })
+        });
+        answer.into()
+    }
+}
+
+include!("../../../crates/seeded_test/src/main.rt");
