@@ -4,8 +4,9 @@
 // it, and so it must after a refusal. Where a case parts document 01 from another reading, its comment names that.
 //
 // The expected output of every call that the Rust knows is the Rust's: this program compiled as Rust, with the oracle
-// in the place of the crate `seeded` (tools/oracle/examples/seeded_test.rs). The Rust's InvalidRadius is 8, 11, 12 or 13 by document 01, and
-// its LengthMismatch 6 or 10. The lines of refusals 2 to 5 and 9, which the Rust does not have, are document 01's.
+// in the place of the crate `seeded` (tools/oracle/examples/seeded_test.rs). The Rust's InvalidRadius is 8, 11, 12 or
+// 13 by document 01, and its LengthMismatch 6 or 10. The lines of refusals 2 to 5 and 9, which the Rust does not have,
+// are document 01's.
 //
 // No case gives refusal 17. The widened radius is strictly above the candidate's distance for n at least 1, a vector
 // strictly below the radius is admitted, and at n = 0 the empty vector is found.
