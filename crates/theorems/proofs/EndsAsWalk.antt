@@ -1,26 +1,21 @@
 -- Demand 3, "ends as its walk does: with the same point and the same count, or with the same refusal and the same numbers in it", over the calls and the slices that they leave. Assumes nothing.
 use mathlib.Core.Path.{_≡_, ap, _∙_}
-use mathlib.Core.List.{List, map}
-use Prim.Native.Nat.{ℕ, _≤_, _<_}
+use mathlib.Core.List.{List}
+use Prim.Native.Nat.{ℕ}
 use borrow.Author.Tests.{lt-ltb, le-ltb}
 use lib.ListN.{length}
 use lib.IntN.{ℤ}
 use lib.Ieee.{Float}
 use Rattle.definitions.specs.Table.{Table, dimension}
 use Rattle.definitions.specs.Walk.{Walked, ended, exhausted}
-use Rattle.definitions.specs.Nearest.{Best, no-best, best, nearestWalk}
+use Rattle.definitions.specs.Nearest.{Best, nearestWalk}
 use Rattle.definitions.specs.Listing.{ListPoint, listWalk, sorted}
 use Rattle.definitions.specs.Seeds.{widened}
 use Rattle.definitions.specs.Refusals.{Refusal, budgetExhausted, outsideRadius, noSeed, listFull}
 use Rattle.definitions.specs.Checks.{pass, handedOn}
-use Rattle.definitions.specs.Calls.{Answer, found, refused, NearestPoint, endOfNearest, nearestChecks, nearest, seededChecks, nearestSeeded, mlRadius, mlChecks, nearestMl, nearestOutput, ListAnswer, endOfList, listChecks, list, written, coordinates, listDistances, listPoints}
+use Rattle.definitions.specs.Calls.{Answer, found, refused, NearestPoint, endOfNearest, nearestChecks, nearest, seededChecks, nearestSeeded, mlRadius, mlChecks, nearestMl, nearestOutput, ListAnswer, endOfList, listChecks, list, listDistances, listPoints}
 use Rattle.definitions.proofs.Answers.{end-exhausted, end-nothing, end-point, output-found, output-refused, nearest-checked, widened-search-is, seeded-checked, ml-checked, list-exhausted, list-full, list-sorted, distances-found, distances-refused, points-found, points-refused, list-checked}
-
--- the answer and the output slice at exit, for each end of the walk; `none` is the refusal if nothing was found
-pub record EndsAsWalk (none : Refusal) (w : Walked Best) (out : List ℤ) (answer : Answer NearestPoint) : Type 0 where
-  pub point : (z : List ℤ) (S : Float) (m : ℕ) → w ≡ ended (best z) S m → (answer ≡ found (record { nodes = m; point = z })) × (nearestOutput answer out ≡ z)
-  pub nothing : (S : Float) (m : ℕ) → w ≡ ended no-best S m → (answer ≡ refused none) × (nearestOutput answer out ≡ out)
-  pub spent : (m : ℕ) (S : Float) → w ≡ exhausted m S → (answer ≡ refused (budgetExhausted m S)) × (nearestOutput answer out ≡ out)
+use Rattle.theorems.specs.Answers.{EndsAsWalk, EndsAsListWalk}
 
 ends-as-walk : (none : Refusal) (w : Walked Best) (out : List ℤ) (answer : Answer NearestPoint) → answer ≡ endOfNearest none w → EndsAsWalk none w out answer
 ends-as-walk none w out answer is =
@@ -48,17 +43,7 @@ ml-ends t target out budget q =
     let wide = widened (dimension t) (mlRadius t target) in
     ends-as-walk (noSeed wide) (nearestWalk t target wide budget) out (nearestMl t target out budget) (ml-checked t target out budget q ∙ widened-search-is t target (mlRadius t target) budget)
 
--- ---- list: the same, with both slices
-pub record EndsAsListWalk (w : Walked (List ListPoint)) (distances : List Float) (points : List ℤ) (answer : Answer ListAnswer) : Type 0 where
-  pub room : (ps : List ListPoint) (S : Float) (m : ℕ) → w ≡ ended ps S m → length ps ≤ length distances →
-      (answer ≡ found (record { nodes = m; points = sorted ps }))
-      × (listDistances answer distances ≡ written (map (λ (p : ListPoint). p .distance) (sorted ps)) distances)
-      × (listPoints answer points ≡ written (coordinates (sorted ps)) points)
-  pub full : (ps : List ListPoint) (S : Float) (m : ℕ) → w ≡ ended ps S m → length distances < length ps →
-      (answer ≡ refused (listFull (length ps))) × (listDistances answer distances ≡ distances) × (listPoints answer points ≡ points)
-  pub spent : (m : ℕ) (S : Float) → w ≡ exhausted m S →
-      (answer ≡ refused (budgetExhausted m S)) × (listDistances answer distances ≡ distances) × (listPoints answer points ≡ points)
-
+-- ---- list
 module _ (t : Table) (target distances : List Float) (points : List ℤ) (R : Float) (budget : ℕ) (q : listChecks t target distances points R budget ≡ pass) where
   abbrev call : Answer ListAnswer
   call = list t target distances points R budget

@@ -26,7 +26,8 @@ use Rattle.theorems.specs.Ordered.{vectorsOf, StrictlyOrdered}
 use Rattle.theorems.proofs.Limits.{Limits}
 use Rattle.theorems.proofs.Checked.{limits-of-checks}
 use Rattle.theorems.proofs.Counts.{same-length}
-use Rattle.theorems.proofs.Listing.{Listed, list-exact, list-ends-exactly, list-enough}
+use Rattle.theorems.specs.Answers.{Listed}
+use Rattle.theorems.proofs.Listing.{list-exact, list-ends-exactly, list-enough}
 use Rattle.theorems.proofs.Sorting as S
 use Rattle.theorems.proofs.Endings.{found≢refused, refused-same, exhausted-same, found-passed}
 use Rattle.theorems.proofs.EndsAsWalk.{list-ends}

@@ -13,7 +13,7 @@ use lib.Ieee.{Float, binary64, add, le, lt}
 use Rattle.rounding.proofs.Value.{Finite}
 use Rattle.definitions.specs.Table.{Table, dimension, weight, plusZero}
 use Rattle.definitions.specs.Distance.{center, term, partial, distance}
-use Rattle.definitions.specs.Admitted.{secondTest, admitted, opened}
+use Rattle.definitions.specs.Admitted.{secondTest, opened}
 use Rattle.definitions.specs.Walk.{ended, exhausted}
 use Rattle.definitions.specs.Listing.{ListPoint, listWalk}
 use Rattle.definitions.proofs.Distances.{partial-nil, partial-step}
@@ -22,6 +22,7 @@ use Rattle.theorems.specs.Counting.{sameVector, tally, count, EachOnce}
 use Rattle.theorems.specs.Unbudgeted.{Progress, afterChild, allChildren, walkAll, added, listAll}
 use Rattle.theorems.specs.Prefixes.{joined, levelChildren, openedBelow, admittedBelow, openedPrefixes, admittedVectors}
 use Rattle.theorems.specs.Ordered.{vectorsOf, OwnDistances}
+use Rattle.theorems.specs.Answers.{Listed}
 use Rattle.theorems.proofs.Limits.{Limits}
 use Rattle.theorems.proofs.Counts.{same-length}
 use Rattle.theorems.proofs.Prefixes.{openedFrom, admittedFrom, opened-leaf, opened-level, admitted-leaf, admitted-level, opened-once, admitted-once}
@@ -97,13 +98,6 @@ module _ (t : Table) (target : List Float) (R : Float) where
   own-added : (xs : List (List ℤ)) (found : List ListPoint) → OwnDistances t target found → OwnDistances t target (addAll xs found)
   own-added [] found o = o
   own-added (x ∷ xs) found o = own-added xs (record { distance = distance t target x; point = x } ∷ found) (refl, o)
-
--- ---- the theorems
--- what a walk that ends has found
-pub record Listed (t : Table) (target : List Float) (R : Float) (found : List ListPoint) (m : ℕ) : Type 0 where
-  pub exact : EachOnce (admitted t target R) (vectorsOf found)
-  pub own : OwnDistances t target found
-  pub nodes : (L : List (List ℤ)) → EachOnce (opened t target R) L → length L ≡ m
 
 module _ (t : Table) (target : List Float) (limits : Limits t target) (R : Float) (finite : Finite binary64 R) (plus : T (not (lt R plusZero))) where
   opened-length : (L : List (List ℤ)) → EachOnce (opened t target R) L → length L ≡ length (openedPrefixes t target R)

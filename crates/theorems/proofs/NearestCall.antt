@@ -11,8 +11,7 @@ use lib.Ieee.{Float, binary64, fits, lt}
 use lib.Ieee.Scale.{finite}
 use Rattle.rounding.proofs.Value.{Finite}
 use Rattle.definitions.specs.Table.{Table, dimension, plusZero, largestDimension}
-use Rattle.definitions.specs.Distance.{distance}
-use Rattle.definitions.specs.Admitted.{isVector, admitted, opened}
+use Rattle.definitions.specs.Admitted.{admitted, opened}
 use Rattle.definitions.specs.Nearest.{nearestWalk}
 use Rattle.definitions.specs.Refusals.{outsideRadius, budgetExhausted}
 use Rattle.definitions.specs.Checks.{pass, radiusCheck, handedOn}
@@ -21,6 +20,7 @@ use Rattle.definitions.proofs.Passed.{NearestPassed, nearest-passed, radius-pas
 use Rattle.definitions.proofs.Answers.{nearest-is, nearest-checked}
 use Rattle.theorems.specs.Doubles.{ofDoubles}
 use Rattle.theorems.specs.Counting.{EachOnce}
+use Rattle.theorems.specs.Answers.{Nearest}
 use Rattle.theorems.proofs.Limits.{Limits}
 use Rattle.theorems.proofs.Checked.{held, failed, limits-of-checks}
 use Rattle.theorems.proofs.Least.{nearest-least, none-smaller, nearest-enough, outside-exactly}
@@ -44,10 +44,7 @@ module _ (t : Table) (target : List Float) (out : List ℤ) (R : Float) (budget 
   none = outsideRadius (handedOn R)
 
   -- a point written: it is admitted at the radius, and no vector of n signed 64-bit integers has a smaller computed distance
-  pub nearest-call-least : (a : NearestPoint) → nearest t target out R budget ≡ found a →
-      T (isVector t (a .point))
-      × T (admitted t target (handedOn R) (a .point))
-      × ((y : List ℤ) → T (isVector t y) → T (not (lt (distance t target y) (distance t target (a .point)))))
+  pub nearest-call-least : (a : NearestPoint) → nearest t target out R budget ≡ found a → Nearest t target (handedOn R) (a .point)
   nearest-call-least a e =
       let p = found-passed (nearestChecks t target out R budget) (endOfNearest none (nearestWalk t target (handedOn R) budget)) a (sym (nearest-is t target out R budget) ∙ e) in
       let q = p .0 in

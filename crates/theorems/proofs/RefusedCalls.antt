@@ -18,20 +18,10 @@ use Rattle.definitions.specs.Checks.{Verdict, pass, refuse, firstRefusal, hande
 use Rattle.definitions.specs.Calls.{Answer, found, refused, after, NearestPoint, endOfNearest, checksOfNearest, nearest, widenedSearch, checksOfSeeded, nearestSeeded, mlRadius, checksOfMl, nearestMl, nearestOutput, ListAnswer, endOfList, checksOfList, list, listDistances, listPoints, checksOfRound, round, roundOutput, checksOfPlane, plane, planeOutput, planeCoefficients}
 use Rattle.definitions.proofs.Answers.{after-pass, after-refuse, end-exhausted, end-nothing, end-point, output-refused, nearest-checks-are, nearest-is, widened-search-is, seeded-checks-are, seeded-is, ml-checks-are, ml-is, list-exhausted, list-full, list-sorted, distances-refused, points-refused, list-checks-are, list-is, round-is, plane-is}
 use Rattle.definitions.proofs.Passed.{round-refused, plane-refused}
+use Rattle.theorems.specs.Answers.{Under, Demand1}
 use Rattle.theorems.specs.Refusals.{LeastFits, NoneFits}
 use Rattle.theorems.proofs.FirstRefusal.{Rising, least-fits, none-passes, passes-none, nearest-rises, seeded-rises, ml-rises, list-rises, round-rises, plane-rises}
 use Rattle.theorems.proofs.Endings.{found≢refused, refused-same}
-
--- a refusal under the one number or the other
-abbrev pub Under : ℕ → ℕ → Refusal → Type 0
-Under j k e = (e .number ≡ j) ⊎ (e .number ≡ k)
-
--- what demand 1 says of a call with these checks, whose walk can end it under j and k
-pub record Demand1 {A : Type 0} (checks : List Verdict) (j k : ℕ) (answer : Answer A) : Type 0 where
-  -- a refusal's number is the least that fits; or none of 1 to 14 fits, and it is j or k
-  pub refuses : (e : Refusal) → answer ≡ refused e → LeastFits checks (e .number) ⊎ (NoneFits checks × Under j k e)
-  -- where none of 1 to 14 fits: an answer, or a refusal under j or k
-  pub answers : NoneFits checks → ((a : A) × (answer ≡ found a)) ⊎ ((e : Refusal) × (answer ≡ refused e) × Under j k e)
 
 module _ {A : Type 0} (checks : List Verdict) (rises : Rising 0 checks) (j k : ℕ) (end : Answer A) (ends : (e : Refusal) → end ≡ refused e → Under j k e) where
   by-verdict : (v : Verdict) → firstRefusal checks ≡ v → (e : Refusal) → after (firstRefusal checks) end ≡ refused e → LeastFits checks (e .number) ⊎ (NoneFits checks × Under j k e)

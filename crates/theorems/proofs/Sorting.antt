@@ -27,7 +27,8 @@ use Rattle.theorems.proofs.Sums.{distance-nonneg}
 use Rattle.theorems.proofs.Counts.{sameVector-refl}
 use Rattle.definitions.proofs.ListedOrder.{Listed as Comparable}
 use Rattle.theorems.proofs.Orders.{listed-trans, listed-total}
-use Rattle.theorems.proofs.Listing.{Listed, list-exact}
+use Rattle.theorems.specs.Answers.{Listed}
+use Rattle.theorems.proofs.Listing.{list-exact}
 
 -- ---- what holds of every point holds after sorting
 abbrev pub Every : (ListPoint → Type 0) → List ListPoint → Type 0

@@ -12,7 +12,7 @@ use lib.Ieee.Scale.{finite}
 use Rattle.rounding.proofs.Value.{Finite, lt→not-le}
 use Rattle.definitions.specs.Table.{Table, dimension, plusZero, largestDimension}
 use Rattle.definitions.specs.Distance.{distance}
-use Rattle.definitions.specs.Admitted.{allI64, isVector, admitted, opened}
+use Rattle.definitions.specs.Admitted.{allI64, isVector, opened}
 use Rattle.definitions.specs.Nearest.{nearestWalk}
 use Rattle.definitions.specs.Seeds.{widened}
 use Rattle.definitions.specs.Refusals.{Refusal, noSeed, budgetExhausted}
@@ -23,19 +23,13 @@ use Rattle.definitions.proofs.Passed.{SearchPassed, SeededPassed, seeded-passed
 use Rattle.definitions.proofs.Answers.{widened-search-is, seeded-is, seeded-checked, ml-is, ml-checked}
 use Rattle.theorems.specs.Doubles.{ofDoubles}
 use Rattle.theorems.specs.Counting.{EachOnce}
+use Rattle.theorems.specs.Answers.{Nearest}
 use Rattle.theorems.proofs.Limits.{Limits}
 use Rattle.theorems.proofs.Sums.{distance-nonneg}
 use Rattle.theorems.proofs.Checked.{held, failed, limits-of-checks}
 use Rattle.theorems.proofs.Seeded.{seeded-finds, seeded-least, seeded-enough, widened-double, mlRadius-finite, mlRadius-plus, ml-finds}
 use Rattle.theorems.proofs.Endings.{found-passed, point-walked, refused-nothing, refused-exhausted}
 use Rattle.theorems.proofs.NearestCall.{radius-finite, radius-plus}
-
--- what a point written is: a vector, admitted at the radius the walk starts from, and no vector has a smaller computed distance
-abbrev pub Nearest : Table → List Float → Float → List ℤ → Type 0
-Nearest t target R z =
-    T (isVector t z)
-    × T (admitted t target R z)
-    × ((y : List ℤ) → T (isVector t y) → T (not (lt (distance t target y) (distance t target z))))
 
 -- ---- the walk at the widened radius
 module _ (t : Table) (target : List Float) (limits : Limits t target) (R : Float) (fin : Finite binary64 R) (plus : T (not (lt R plusZero))) (wide : Finite binary64 (widened (dimension t) R)) (budget : ℕ) where

@@ -6,3 +6,4 @@ pub mod Prefixes
 pub mod Unbudgeted
 pub mod Ordered
 pub mod Refusals
+pub mod Answers
