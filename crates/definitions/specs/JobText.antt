@@ -10,7 +10,7 @@ use lib.IntN.{ℤ, pos, negsuc}
 use lib.Ieee.{Float, binary64, fin, mul, le, toBits}
 use Rattle.definitions.specs.Table.{dimension, plusZero}
 use Rattle.definitions.specs.Listing.{ListPoint}
-use Rattle.definitions.specs.Refusals.{Refusal, jobLayout}
+use Rattle.definitions.specs.Refusals.{jobLayout}
 use Rattle.definitions.specs.Calls.{Answer, found, refused, NearestPoint, ListAnswer, nearest, list}
 use Rattle.definitions.specs.JobLayout.{Job, Layout, job, layout-fault, jobOf}
 
@@ -67,10 +67,10 @@ unfoldable pub group : ℕ → List ℕ
 unfolding text
 group number = cond (leb number 1) (text "layout") (cond (leb number 5) (text "table") (cond (leb number 14) (text "call") (text "search")))
 
--- "Refusal lines read `nearest refused 15 search`"
-unfoldable pub refusalLine : String → Refusal → List ℕ
+-- "Refusal lines read `nearest refused 15 search`": by the word and the number
+unfoldable pub refusalLine : List ℕ → ℕ → List ℕ
 unfolding text decimal group
-refusalLine word e = text word ++ text " refused " ++ decimal (e .number) ++ text " " ++ group (e .number) ++ newline
+refusalLine word number = word ++ text " refused " ++ decimal number ++ text " " ++ group number ++ newline
 
 -- ---- the lines
 
@@ -78,7 +78,7 @@ refusalLine word e = text word ++ text " refused " ++ decimal (e .number) ++ tex
 unfoldable pub nearestLine : Answer NearestPoint → List ℕ
 unfolding text decimal pointText refusalLine
 nearestLine (found a) = text "nearest " ++ decimal (a .nodes) ++ pointText (a .point) ++ newline
-nearestLine (refused e) = refusalLine "nearest" e
+nearestLine (refused e) = refusalLine (text "nearest") (e .number)
 
 -- "each point after its distance's 16 upper-case hexadecimal digits"
 unfoldable pub listedLines : List ListPoint → List ℕ
@@ -90,7 +90,7 @@ listedLines (p ∷ ps) = hexadecimal (p .distance) ++ pointText (p .point) ++ ne
 unfoldable pub listLines : Answer ListAnswer → List ℕ
 unfolding text decimal listedLines refusalLine
 listLines (found a) = text "list " ++ decimal (a .nodes) ++ text " " ++ decimal (length (a .points)) ++ newline ++ listedLines (a .points)
-listLines (refused e) = refusalLine "list" e
+listLines (refused e) = refusalLine (text "list") (e .number)
 
 -- "two or more points, holds if d2 ≥ 3·d1 (product rounded once), else fails; one point, holds; no point .., none"
 unfoldable pub ratio : List ListPoint → String
@@ -120,7 +120,7 @@ jobList j = list (j .table) (j .target) (replicate jobPlaces plusZero) (replicat
 -- "prints nearest .., list .., then the ratio"; "Number 1 prints only `job refused 1 layout`"
 unfoldable pub jobText : Layout → List ℕ
 unfolding nearest list nearestLine listLines ratioLine refusalLine
-jobText (layout-fault offset) = refusalLine "job" (jobLayout offset)
+jobText (layout-fault offset) = refusalLine (text "job") (jobLayout offset .number)
 jobText (job j) = nearestLine (jobNearest j) ++ listLines (jobList j) ++ ratioLine (jobList j)
 
 -- what the program writes for what it reads
