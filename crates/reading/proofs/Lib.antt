@@ -2,3 +2,6 @@
 pub mod Numbers
 pub mod Sections
 pub mod Items
+pub mod Layouts
+pub mod Rows
+pub mod Jobs

@@ -1,7 +1,5 @@
 // The numbered refusals of the library's calls, with what each carries. Number 1 belongs to the job
 // program. specs/Numbers.antt gives each case's number and values.
-ghost use mathlib.Core.Path.{_≡_};
-ghost use Rattle.refusals.specs.Numbers.{numbered};
 
 pub enum Refusal {
     // 2: n above the largest dimension, or mu not n·n long (weights' length).
@@ -44,29 +42,4 @@ pub enum Refusal {
 pub enum Verdict {
     Pass,
     Refuse(Refusal),
-}
-
-// A refusal's number in document 01.
-pub fn number(e: Refusal) -> u64
-    ensures { λ r. ⌜ r ≡ numbered e .number ⌝ }
-{
-    match e {
-        Refusal::TableSize(_) => 2,
-        Refusal::MuNonFinite(_) => 3,
-        Refusal::MuRange(_) => 4,
-        Refusal::WeightRange(_) => 5,
-        Refusal::LengthMismatch(_, _) => 6,
-        Refusal::NonFinite(_) => 7,
-        Refusal::InvalidRadius(_) => 8,
-        Refusal::BudgetRange(_) => 9,
-        Refusal::CandidateLength(_, _) => 10,
-        Refusal::CandidateDistance(_) => 11,
-        Refusal::CandidateOutside(_) => 12,
-        Refusal::WidenedRadius(_) => 13,
-        Refusal::ListSize(_) => 14,
-        Refusal::BudgetExhausted(_, _) => 15,
-        Refusal::OutsideRadius(_) => 16,
-        Refusal::NoSeed(_) => 17,
-        Refusal::ListFull(_) => 18,
-    }
 }

@@ -6,7 +6,9 @@ use borrow.Author.Tests.{lt-ltb, le-ltb, le-leb, lt-leb}
 use lib.Dec.{leb, ltb}
 use lib.ListN.{length}
 use Rattle.definitions.specs.JobLayout.{items, itemsAt}
-use Rattle.reading.specs.View.{within}
+use Rattle.reading.specs.declared.Section.the-variants.{Items}
+use Rattle.reading.specs.View.{within, sectionOf}
+use Rattle.reading.proofs.Items.{length-items}
 use Rattle.reading.proofs.Sections.{section-short, section-wrong, section-cut, section-whole}
 use borrow.Author.Needs.{needs}
 use Rattle.reading.proofs.section_at.Statement.{statement}
@@ -27,7 +29,7 @@ add-if1 c = search needs
 returns : tie.Need-returns
 returns c =
     let a = c .before .before .args in
-    sym (section-short (a .input .now) (within (a .low) (a .high)) (a .offset) (lt-ltb (length (a .input .now)) (a .offset + 4) (c .if1 .taken)))
+    (ap sectionOf (sym (section-short (a .input .now) (within (a .low) (a .high)) (a .offset) (lt-ltb (length (a .input .now)) (a .offset + 4) (c .if1 .taken)))), tt)
 
 number-at-requires : tie.Need-number-at-requires
 number-at-requires c κs = search needs
@@ -37,7 +39,7 @@ returns-2 c =
     let long = c .before .before in
     let a = long .before .before .args in
     let n = c .before .number-at in
-    sym (section-wrong (a .input .now) (within (a .low) (a .high)) (a .offset) (le-ltb (length (a .input .now)) (a .offset + 4) (long .if1 .left)) (ap (within (a .low) (a .high)) (sym (n .ensures .0)) ∙ below (a .low) (a .high) (n .result) (c .if2 .taken)))
+    (ap sectionOf (sym (section-wrong (a .input .now) (within (a .low) (a .high)) (a .offset) (le-ltb (length (a .input .now)) (a .offset + 4) (long .if1 .left)) (ap (within (a .low) (a .high)) (sym (n .ensures .0)) ∙ below (a .low) (a .high) (n .result) (c .if2 .taken)))), tt)
 
 returns-3 : tie.Need-returns-3
 returns-3 c =
@@ -45,7 +47,7 @@ returns-3 c =
     let long = counted .before in
     let a = long .before .before .args in
     let n = counted .number-at in
-    sym (section-wrong (a .input .now) (within (a .low) (a .high)) (a .offset) (le-ltb (length (a .input .now)) (a .offset + 4) (long .if1 .left)) (ap (within (a .low) (a .high)) (sym (n .ensures .0)) ∙ above (a .low) (a .high) (n .result) (c .before .if2 .left) (c .if3 .taken)))
+    (ap sectionOf (sym (section-wrong (a .input .now) (within (a .low) (a .high)) (a .offset) (le-ltb (length (a .input .now)) (a .offset + 4) (long .if1 .left)) (ap (within (a .low) (a .high)) (sym (n .ensures .0)) ∙ above (a .low) (a .high) (n .result) (c .before .if2 .left) (c .if3 .taken)))), tt)
 
 add-end : tie.Need-add-end
 add-end c = search needs
@@ -65,7 +67,7 @@ returns-4 c =
     let n = counted .number-at in
     let good = ap (within (a .low) (a .high)) (sym (n .ensures .0)) ∙ inside (a .low) (a .high) (n .result) (right .before .if2 .left) (right .if3 .left) in
     let whole = le-ltb (length (a .input .now)) (a .offset + 4) (long .if1 .left) in
-    sym (section-cut (a .input .now) (within (a .low) (a .high)) (a .offset) whole good (ap (λ (k : ℕ). ltb (length (a .input .now)) (a .offset + 4 + 8 * k)) (sym (n .ensures .0)) ∙ lt-ltb (length (a .input .now)) (a .offset + 4 + 8 * n .result) (c .if4 .taken)))
+    (ap sectionOf (sym (section-cut (a .input .now) (within (a .low) (a .high)) (a .offset) whole good (ap (λ (k : ℕ). ltb (length (a .input .now)) (a .offset + 4 + 8 * k)) (sym (n .ensures .0)) ∙ lt-ltb (length (a .input .now)) (a .offset + 4 + 8 * n .result) (c .if4 .taken)))), tt)
 
 returns-5 : tie.Need-returns-5
 returns-5 c =
@@ -76,8 +78,12 @@ returns-5 c =
     let n = counted .number-at in
     let good = ap (within (a .low) (a .high)) (sym (n .ensures .0)) ∙ inside (a .low) (a .high) (n .result) (right .before .if2 .left) (right .if3 .left) in
     let whole = le-ltb (length (a .input .now)) (a .offset + 4) (long .if1 .left) in
-    ap (λ (k : ℕ). items (itemsAt (a .input .now) (a .offset + 4) k) (a .offset + 4 + 8 * k)) (n .ensures .0)
-    ∙ sym (section-whole (a .input .now) (within (a .low) (a .high)) (a .offset) whole good (ap (λ (k : ℕ). ltb (length (a .input .now)) (a .offset + 4 + 8 * k)) (sym (n .ensures .0)) ∙ le-ltb (length (a .input .now)) (a .offset + 4 + 8 * n .result) (c .if4 .left)))
+    let same =
+    ap (λ (k : ℕ). Items k (a .offset + 4 + 8 * n .result)) (sym (length-items (a .input .now) (a .offset + 4) (n .result)))
+    ∙ ap (λ (k : ℕ). sectionOf (items (itemsAt (a .input .now) (a .offset + 4) k) (a .offset + 4 + 8 * k))) (n .ensures .0)
+    ∙ ap sectionOf (sym (section-whole (a .input .now) (within (a .low) (a .high)) (a .offset) whole good (ap (λ (k : ℕ). ltb (length (a .input .now)) (a .offset + 4 + 8 * k)) (sym (n .ensures .0)) ∙ le-ltb (length (a .input .now)) (a .offset + 4 + 8 * n .result) (c .if4 .left))))
+    in
+    (same, c .if4 .left)
 
 pub section-at-spec : {M : Type 1} → statement M
 section-at-spec =
