@@ -1,7 +1,7 @@
 -- The five sections one after another are the job's layout. Assumes nothing.
 use mathlib.Core.Path.{_≡_, refl, ap, sym, subst, _∙_}
 use mathlib.Core.Bool.{Bool, true, false, cond, _&&_}
-use mathlib.Core.List.{List, []}
+use mathlib.Core.List.{List}
 use Prim.Native.Nat.{ℕ, _+_, _*_, _≤_}
 use native.Mathlib.Omega.{arith}
 use lib.Dec.{leb, ltb, eqb, leb·zero}
@@ -48,7 +48,7 @@ within-one count k = from (leb count k) refl (leb k count) refl
     from false p b q = let l = leb-false count k p in ne-eqb count k λ (e : count ≡ k). omega (arith, l, e)
 
 -- every count is at least 0
-from-zero : (high k : ℕ) → within 0 high k ≡ leb k high
+pub from-zero : (high k : ℕ) → within 0 high k ≡ leb k high
 from-zero high k = ap (λ (b : Bool). b && leb k high) (leb·zero k)
 
 at-most : (k : ℕ) → within 0 23 k ≡ true → k ≤ 23

@@ -5,3 +5,4 @@ pub mod Items
 pub mod Layouts
 pub mod Rows
 pub mod Jobs
+pub mod Prefixes

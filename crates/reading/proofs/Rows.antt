@@ -1,6 +1,6 @@
 -- mu's rows, one after another, over zeros. Assumes nothing.
 use mathlib.Core.Path.{_≡_, refl, ap, sym, subst, _∙_}
-use mathlib.Core.List.{List, [], _∷_, _++_, append-assoc, append-nil, map-append}
+use mathlib.Core.List.{List, _∷_, _++_, append-assoc, append-nil, map-append}
 use Prim.Native.Nat.{ℕ, zero, suc, _+_, _-_, _*_, _≤_, _<_}
 use native.Mathlib.Nat.{mul-suc, suc-mul, zero-mul, add-mul, add-zero, add-suc, zero-add, suc-add}
 use native.Mathlib.Omega.{arith}

@@ -44,6 +44,12 @@ differs (inf true) = refl
 differs (inf false) = refl
 differs (fin s m e) = ap not (same s (m * up e * down e))
 
+pub is-nan : (x : Float) → isNan x ≡ true → x ≡ nan
+unfolding isNan
+is-nan nan q = refl
+is-nan (inf s) q = absurd (false≢true q)
+is-nan (fin s m e) q = absurd (false≢true q)
+
 pub nan-equals-none : (x y : Float) → isNan y ≡ true → eq x y ≡ false
 unfolding eq isNan
 nan-equals-none nan y h = refl

@@ -23,3 +23,8 @@ one-is = refl
 pub epsilon-is : ofBits binary64 4372995238176751616 ≡ fin false 1 (negsuc 51)
 unfolding ofBits
 epsilon-is = refl
+
+-- 3.0
+pub three-is : ofBits binary64 4613937818241073152 ≡ fin false 3 (pos 0)
+unfolding ofBits
+three-is = refl

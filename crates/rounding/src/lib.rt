@@ -5,7 +5,7 @@ ghost use mathlib.Core.Bool.{false};
 ghost use Prim.Native.Nat.{_<_, _^_};
 ghost use lib.Dec.{T};
 ghost use lib.IntN.{pos, negℤ};
-ghost use lib.Ieee.{binary64, ofBits, fin, lt, neg};
+ghost use lib.Ieee.{binary64, ofBits, toBits, fin, lt, neg};
 ghost use lib.Ieee.Scale.{finite};
 ghost use Rattle.rounding.specs.Integers.{roundAway, toDouble};
 ghost use Rattle.rounding.specs.Doubles as D;
@@ -114,6 +114,16 @@ pub fn from_bits(bits: u64) -> f64
         return 0.0 / 0.0;
     }
     f64::from_bits(bits)
+}
+
+// The bit pattern of a double; for a NaN, the quiet one with no sign and no payload.
+pub fn to_bits(x: f64) -> u64
+    ensures { λ r. ⌜ r ≡ toBits binary64 x ⌝ }
+{
+    if x != x {
+        return 9221120237041090560;
+    }
+    f64::to_bits(x)
 }
 
 // Whether the sign of x is minus, as minus zero's is; false of a NaN. A zero's sign shows in its reciprocal.

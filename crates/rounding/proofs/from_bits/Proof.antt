@@ -1,24 +1,17 @@
 -- `rounding::from_bits` meets its contract: above the infinity's pattern, the sign taken off, a pattern is a NaN's. Assumes nothing.
 use mathlib.Core.Path.{_≡_, refl, sym, _∙_}
-use mathlib.Core.Bool.{true, false≢true}
 use Prim.Native.Nat.{_%_}
-use lib.Ieee.{Float, nan, inf, fin, binary64, isNan, ofBits, div}
+use lib.Ieee.{nan, binary64, ofBits, div}
 use lib.Ieee.Bits.{nanBits-is, nanBits-above}
 use borrow.Author.Needs.{needs}
 use borrow.Author.Tests.{lt-ltb, le-ltb}
-use Rattle.rounding.proofs.Comparison.{failed}
+use Rattle.rounding.proofs.Comparison.{failed, is-nan}
 use Rattle.rounding.proofs.from_bits.Statement.{statement}
 use Rattle.rounding.proofs.from_bits.Tie as tie
 
 zero-by-zero : div binary64 (ofBits binary64 0) (ofBits binary64 0) ≡ nan
 unfolding div ofBits
 zero-by-zero = refl
-
-is-nan : (x : Float) → isNan x ≡ true → x ≡ nan
-unfolding isNan
-is-nan nan q = refl
-is-nan (inf s) q = absurd (false≢true q)
-is-nan (fin s m e) q = absurd (false≢true q)
 
 returns : tie.Need-returns
 returns c =

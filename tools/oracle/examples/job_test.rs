@@ -1,0 +1,174 @@
+//! What the run test `job_test` must print: for each file that crates/job_test/args names, in that order, a line with
+//! the file's name and a colon, then what the job program prints for the file's bytes. With an argument, only what it
+//! prints for the file that the argument names.
+//!
+//! The original's: the points, the counts, the distances, the list's order and refusals 7, 8, 15 and 16. A list's nodes,
+//! which it does not hand out, are the least budget that it accepts. Worked out here, by document 01: the layout with
+//! refusal 1, refusals 3, 4, 5, 9 and 18, which refusal comes first, the ratio and the text. A job can't meet the
+//! others: by its layout its table has the right size and its target the right length, and the program lends the list
+//! right slices.
+
+use oracle::Enumerator;
+use oracle::error::DecodeError;
+use std::io::Write;
+use std::path::Path;
+
+const LARGEST_DIMENSION: usize = 23;
+const LARGEST_BUDGET: u64 = 1 << 60;
+/// 2^52
+const LARGEST_ENTRY: f64 = 4_503_599_627_370_496.0;
+const PLACES: usize = 256;
+
+struct Job {
+    weights: Vec<f64>,
+    /// n·n entries; those that are not read are 0.
+    mu: Vec<f64>,
+    target: Vec<f64>,
+    radius: f64,
+    budget: u64,
+}
+
+// ---- the layout
+
+/// Takes the next section's items from the input; None is refusal 1. `right` says which counts are not wrong.
+fn section(input: &mut &[u8], right: impl Fn(usize) -> bool) -> Option<Vec<u64>> {
+    let (count, rest) = input.split_first_chunk()?;
+    let count = usize::try_from(u32::from_le_bytes(*count)).unwrap();
+    if !right(count) {
+        return None;
+    }
+    let (items, rest) = rest.split_at_checked(8 * count)?;
+    *input = rest;
+    Some(items.chunks_exact(8).map(|item| u64::from_le_bytes(item.try_into().unwrap())).collect())
+}
+
+fn doubles(items: Vec<u64>) -> Vec<f64> {
+    items.into_iter().map(f64::from_bits).collect()
+}
+
+fn job(mut input: &[u8]) -> Option<Job> {
+    let weights = doubles(section(&mut input, |count| count <= LARGEST_DIMENSION)?);
+    let n = weights.len();
+    let mut entries = doubles(section(&mut input, |count| 2 * count + n == n * n)?).into_iter();
+    let target = doubles(section(&mut input, |count| count == n)?);
+    let radius = f64::from_bits(section(&mut input, |count| count == 1)?[0]);
+    let budget = section(&mut input, |count| count == 1)?[0];
+    if !input.is_empty() {
+        return None;
+    }
+    let mut mu = vec![0.0; n * n];
+    for j in 0..n {
+        mu[j * n..][..j].fill_with(|| entries.next().unwrap());
+    }
+    Some(Job { weights, mu, target, radius, budget })
+}
+
+// ---- the refusals
+
+/// The first of 3 to 5 that fits the table.
+fn table_fault(job: &Job) -> Option<u32> {
+    if job.mu.iter().any(|entry| !entry.is_finite()) {
+        Some(3)
+    } else if job.mu.iter().any(|entry| entry.abs() > LARGEST_ENTRY) {
+        Some(4)
+    } else if job.weights.iter().any(|weight| !weight.is_finite() || *weight <= 0.0) {
+        Some(5)
+    } else {
+        None
+    }
+}
+
+/// Document 01's number of the original's error.
+fn number(error: DecodeError) -> u32 {
+    match error {
+        DecodeError::NonFinite { .. } => 7,
+        DecodeError::InvalidRadius { .. } => 8,
+        DecodeError::BudgetExhausted { .. } => 15,
+        DecodeError::OutsideRadius { .. } => 16,
+        DecodeError::LengthMismatch { .. } | DecodeError::Range(_) => unreachable!("no job gives {error:?}"),
+    }
+}
+
+/// What `call` answers for the job: 3 to 5 come before its own refusals, 9 comes between its 8 and its 15.
+fn answer<T>(job: &Job, call: impl Fn(&Enumerator, u64) -> Result<T, DecodeError>) -> Result<T, u32> {
+    if let Some(fault) = table_fault(job) {
+        return Err(fault);
+    }
+    let table = Enumerator::from_table(&job.weights, &job.mu);
+    if job.budget <= LARGEST_BUDGET {
+        return call(&table, job.budget).map_err(number);
+    }
+    // The budget of 0 asks only for 7 and 8: behind 9 there is no walk.
+    match call(&table, 0).map_err(number) {
+        Err(fault @ (7 | 8)) => Err(fault),
+        _ => Err(9),
+    }
+}
+
+// ---- the text
+
+fn refusal_line(word: &str, number: u32) -> String {
+    let group = match number {
+        1 => "layout",
+        2..=5 => "table",
+        6..=14 => "call",
+        _ => "search",
+    };
+    format!("{word} refused {number} {group}\n")
+}
+
+/// Each coordinate after a blank.
+fn coordinates(point: &[i64]) -> String {
+    point.iter().map(|z| format!(" {z}")).collect()
+}
+
+fn nearest_line(job: &Job) -> String {
+    let found = answer(job, |table, budget| oracle::nearest(table, &job.target, job.weights.len(), job.radius, budget));
+    match found {
+        Ok((point, nodes)) => format!("nearest {nodes}{}\n", coordinates(&point)),
+        Err(number) => refusal_line("nearest", number),
+    }
+}
+
+/// The list's lines and the ratio's.
+fn list_lines(job: &Job) -> String {
+    let (points, nodes) = match answer(job, |table, budget| oracle::list(table, &job.target, job.radius, budget)) {
+        Ok((points, _)) if points.len() > PLACES => return refusal_line("list", 18) + "ratio none\n",
+        Err(number) => return refusal_line("list", number) + "ratio none\n",
+        Ok(listed) => listed,
+    };
+    let ratio = match &points[..] {
+        [] => "none",
+        [_] => "holds",
+        [(first, _), (second, _), ..] => {
+            if *second >= 3.0 * *first {
+                "holds"
+            } else {
+                "fails"
+            }
+        }
+    };
+    let lines: String =
+        points.iter().map(|(distance, z)| format!("{:016X}{}\n", distance.to_bits(), coordinates(z))).collect();
+    format!("list {nodes} {}\n{lines}ratio {ratio}\n", points.len())
+}
+
+fn job_text(input: &[u8]) -> String {
+    match job(input) {
+        None => refusal_line("job", 1),
+        Some(job) => nearest_line(&job) + &list_lines(&job),
+    }
+}
+
+fn main() {
+    let mut out = std::io::stdout().lock();
+    if let Some(file) = std::env::args_os().nth(1) {
+        out.write_all(job_text(&std::fs::read(file).unwrap()).as_bytes()).unwrap();
+        return;
+    }
+    let folder = Path::new(env!("CARGO_MANIFEST_DIR")).join("../../crates/job_test");
+    for file in std::fs::read_to_string(folder.join("args")).unwrap().lines() {
+        let text = job_text(&std::fs::read(folder.join("data").join(file)).unwrap());
+        write!(out, "{file}:\n{text}").unwrap();
+    }
+}
