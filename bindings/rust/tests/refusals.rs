@@ -1,0 +1,139 @@
+//! Each number but 17, with its values, and that a refusal leaves every lent slice as it was: NaNs, which the proofs do
+//! not tell apart, by their bits.
+
+use snowgimmer::{Refusal, list, nearest, nearest_ml, nearest_plane, nearest_seeded, round, triangular_distance};
+
+/// NaNs with different signs and payloads, the second a signaling one.
+const NANS: [u64; 4] = [0x7FF8_0000_DEAD_BEEF, 0x7FF0_0000_0000_0001, 0xFFF8_0000_0000_0000, 0xFFFF_FFFF_FFFF_FFFF];
+
+/// The largest finite weight, over which a distance overflows.
+const HUGE: f64 = f64::MAX;
+
+fn nans(places: usize) -> Vec<f64> {
+    (0..places).map(|i| f64::from_bits(NANS[i % 4])).collect()
+}
+
+fn bits(values: &[f64]) -> Vec<u64> {
+    values.iter().map(|x| x.to_bits()).collect()
+}
+
+/// The refusal of a call that is lent an output of so many places, which must keep its contents.
+fn kept(places: usize, call: impl FnOnce(&mut [i64]) -> Result<u64, Refusal>) -> Refusal {
+    let before: Vec<i64> = (0..places as i64).map(|i| i64::MIN + i).collect();
+    let mut out = before.clone();
+    let refusal = call(&mut out).unwrap_err();
+    assert_eq!(out, before);
+    refusal
+}
+
+/// The refusal of a list of one weight over these places, which must keep their contents.
+fn list_kept(weight: f64, places: usize, points: usize, radius: f64, budget: u64) -> Refusal {
+    let mut distances = nans(places);
+    kept(points, |points| {
+        let listed = list(&[weight], &[0.0], &[0.5], &mut distances, points, radius, budget);
+        assert_eq!(bits(&distances), bits(&nans(places)));
+        listed.map(|l| l.nodes)
+    })
+}
+
+#[test]
+fn tables() {
+    let by = |weights: &[f64], mu: &[f64]| kept(2, |out| nearest(weights, mu, &[0.5; 2], out, 1.0, 9));
+    assert_eq!(by(&[1.0; 24], &[0.0; 576]), Refusal::TableSize { weights: 24 });
+    assert_eq!(by(&[1.0; 2], &[0.0; 3]), Refusal::TableSize { weights: 2 });
+    assert_eq!(by(&[1.0; 2], &[0.0, 0.0, f64::NAN, 0.0]), Refusal::MuNonFinite { index: 2 });
+    assert_eq!(by(&[1.0; 2], &[0.0, 0.0, -1e16, 0.0]), Refusal::MuRange { index: 2 });
+    assert_eq!(by(&[1.0, -0.0], &[0.0; 4]), Refusal::WeightRange { index: 1 });
+}
+
+#[test]
+fn calls() {
+    let one = |target: &[f64], places: usize, radius: f64| {
+        kept(places, |out| nearest(&[1.0], &[0.0], target, out, radius, 9))
+    };
+    assert_eq!(one(&[], 1, 1.0), Refusal::LengthMismatch { expected: 1, found: 0 });
+    assert_eq!(one(&[0.5], 3, 1.0), Refusal::LengthMismatch { expected: 1, found: 3 });
+    assert_eq!(one(&[f64::INFINITY], 1, 1.0), Refusal::NonFinite { index: 0 });
+    assert_eq!(one(&[0.5], 1, -1.0), Refusal::InvalidRadius { radius: -1.0 });
+    assert!(matches!(one(&[0.5], 1, f64::NAN), Refusal::InvalidRadius { radius } if radius.is_nan()));
+    assert_eq!(
+        kept(1, |out| nearest_ml(&[1.0], &[0.0], &[0.5], out, u64::MAX)),
+        Refusal::BudgetRange { budget: u64::MAX }
+    );
+}
+
+#[test]
+fn candidates() {
+    let seeded = |weight: f64, candidate: &[i64], radius: f64| {
+        kept(1, |out| nearest_seeded(&[weight], &[0.0], &[0.5], out, candidate, radius, 9))
+    };
+    assert_eq!(seeded(1.0, &[0, 0], 1.0), Refusal::CandidateLength { expected: 1, found: 2 });
+    assert_eq!(seeded(HUGE, &[1 << 40], 1.0), Refusal::CandidateDistance { total: f64::INFINITY });
+    assert_eq!(seeded(1.0, &[2], 2.0), Refusal::CandidateOutside { radius: 2.0 });
+    assert_eq!(seeded(1.0, &[0], HUGE), Refusal::WidenedRadius { radius: f64::INFINITY });
+}
+
+#[test]
+fn searches() {
+    let budget = |budget: u64| kept(1, |out| nearest(&[1.0], &[0.0], &[0.5], out, 1.0, budget));
+    assert_eq!(budget(1), Refusal::BudgetExhausted { nodes: 1, radius: 0.25 });
+    let outside = kept(1, |out| nearest(&[4.0], &[0.0], &[0.75], out, 0.125, 0));
+    assert_eq!(outside, Refusal::OutsideRadius { radius: 0.125 });
+}
+
+#[test]
+fn lists() {
+    assert_eq!(list_kept(1.0, 4097, 4097, 1.0, 9), Refusal::ListSize { distances: 4097 });
+    assert_eq!(list_kept(1.0, 4, 5, 1.0, 9), Refusal::ListSize { distances: 4 });
+    assert_eq!(list_kept(1.0, 4, 4, 1.0, 1), Refusal::BudgetExhausted { nodes: 1, radius: 1.0 });
+    assert_eq!(list_kept(1.0, 1, 1, 1.0, 9), Refusal::ListFull { points: 2 });
+}
+
+#[test]
+fn places_after_the_last_point() {
+    let (mut distances, mut points) = (nans(4), vec![7; 4]);
+    let listed = list(&[1.0], &[0.0], &[0.5], &mut distances, &mut points, 1.0, 9).unwrap();
+    assert_eq!((listed.nodes, listed.points), (2, 2));
+    assert_eq!((&distances[..2], &points[..]), (&[0.25; 2][..], &[0, 1, 7, 7][..]));
+    assert_eq!(bits(&distances[2..]), bits(&nans(4)[2..]));
+}
+
+#[test]
+fn babai() {
+    assert_eq!(kept(1, |out| round(&[0.5; 2], out).map(|()| 0)), Refusal::LengthMismatch { expected: 2, found: 1 });
+    assert_eq!(kept(2, |out| round(&[0.5, f64::NAN], out).map(|()| 0)), Refusal::NonFinite { index: 1 });
+    let mut out = [0; 3];
+    assert_eq!(round(&[0.5, -2.5, 1e300], &mut out), Ok(()));
+    assert_eq!(out, [1, -3, i64::MAX]);
+}
+
+#[test]
+fn planes() {
+    let plane = |places: usize| {
+        let mut coefficients = nans(2);
+        kept(places, |out| {
+            let answer = nearest_plane(&[1.0; 2], &[0.0; 4], &mut coefficients, out);
+            assert_eq!(bits(&coefficients), bits(&nans(2)));
+            answer.map(|()| 0)
+        })
+    };
+    assert_eq!(plane(2), Refusal::NonFinite { index: 0 });
+    assert_eq!(plane(3), Refusal::LengthMismatch { expected: 2, found: 2 });
+    let (mut coefficients, mut out) = ([0.25, 0.5], [0; 2]);
+    assert_eq!(nearest_plane(&[1.0; 2], &[0.0, 0.0, 0.5, 0.0], &mut coefficients, &mut out), Ok(()));
+    assert_eq!((coefficients, out), ([0.25, -0.5], [0, 1]));
+}
+
+#[test]
+fn distances() {
+    let far = |weight: f64, point: &[i64]| triangular_distance(&[weight], &[0.0], &[0.5], point);
+    assert_eq!(far(1.0, &[2]), Ok(2.25));
+    assert_eq!(far(1.0, &[]), Err(Refusal::LengthMismatch { expected: 1, found: 0 }));
+    assert_eq!(far(HUGE, &[2]), Err(Refusal::CandidateDistance { total: f64::INFINITY }));
+}
+
+#[test]
+fn told_in_words() {
+    let refusal = Refusal::LengthMismatch { expected: 2, found: 1 };
+    assert_eq!(refusal.to_string(), "refused 6: LengthMismatch { expected: 2, found: 1 }");
+}

@@ -1,0 +1,162 @@
+//! The port's speed beside the Rust's: the same inputs, in turns, in one run. Prints a markdown table.
+
+use compare::case::{Call, Case};
+use compare::rng::Rng;
+use compare::{compare, port};
+use oracle::Enumerator;
+use oracle::enumerate::EnumerationScratch;
+use std::hint::black_box;
+use std::time::Instant;
+
+/// Turns in a row of the table, and about how long each side takes in one of them.
+const TURNS: usize = 9;
+const SECONDS: f64 = 0.4;
+
+/// A pass over a row's inputs opens this many nodes, or has the most inputs; it has the fewest in any case.
+const NODES: u64 = 2_000_000;
+const FEWEST: usize = 10;
+const MOST: usize = 2_000;
+
+const AMPLE: u64 = 1 << 60;
+
+/// A case with its table in the form that the Rust prepares once.
+struct Input {
+    case: Case,
+    table: Enumerator,
+}
+
+/// Weights that fall over two and a half orders of magnitude, mu and target uniform.
+fn input(call: Call, n: usize, number: u64) -> Input {
+    let rng = &mut Rng::of_case(n as u64, number);
+    let fall = 10f64.powf(-2.5 / (n - 1) as f64);
+    let weights: Vec<f64> = (0..n).map(|i| fall.powi(i as i32) * rng.uniform(0.8, 1.25)).collect();
+    let mu: Vec<f64> = (0..n * n).map(|k| if k / n > k % n { rng.uniform(-0.5, 0.5) } else { 0.0 }).collect();
+    let target: Vec<f64> = (0..n).map(|_| rng.uniform(-100.0, 100.0)).collect();
+    let table = Enumerator::from_table(&weights, &mu);
+    Input { case: Case::new(call, &weights, &mu, &target, 0.0, AMPLE), table }
+}
+
+/// Nanoseconds of a pass: the fastest turn and the median one.
+struct Times {
+    best: f64,
+    median: f64,
+}
+
+fn times(mut turns: Vec<f64>) -> Times {
+    turns.sort_by(f64::total_cmp);
+    Times { best: turns[0], median: turns[turns.len() / 2] }
+}
+
+/// Takes turns, a few passes each. A pass answers the sum of its counts, which must be `expected`.
+fn in_turns(expected: u64, sides: [&mut dyn FnMut() -> u64; 2]) -> [Times; 2] {
+    let mut turns = [Vec::new(), Vec::new()];
+    let start = Instant::now();
+    sides[0]();
+    let passes = (SECONDS / start.elapsed().as_secs_f64()).ceil() as u32;
+    for turn in 0..TURNS {
+        // Who goes first changes, so that a slow stretch of the machine does not fall on one side.
+        for side in [turn % 2, 1 - turn % 2] {
+            let start = Instant::now();
+            for _ in 0..passes {
+                assert_eq!(black_box(sides[side]()), expected, "the counts differ");
+            }
+            turns[side].push(start.elapsed().as_secs_f64() * 1e9 / f64::from(passes));
+        }
+    }
+    turns.map(times)
+}
+
+fn print(name: &str, inputs: usize, size: &str, per: f64, [rust, port]: [Times; 2]) {
+    println!(
+        "| {name} | {inputs} | {size} | {:.2} | {:.2} | {:.2} | {:.2} | {:.2} | {:.2} |",
+        rust.best / per,
+        port.best / per,
+        port.best / rust.best,
+        rust.median / per,
+        port.median / per,
+        port.median / rust.median
+    );
+}
+
+/// The whole comparison once, so that what is timed is known to be the same.
+fn assert_same(case: &Case) {
+    assert!(compare(case).1.is_none(), "the answers differ: {case}");
+}
+
+// ---- nearest_ml
+
+fn rust_ml(input: &Input, out: &mut [i64], scratch: &mut EnumerationScratch) -> u64 {
+    input.table.nearest_ml(&input.case.target, out, AMPLE, scratch).unwrap()
+}
+
+fn time_ml(n: usize) {
+    let scratch = &mut EnumerationScratch::new();
+    let (mut out, mut other) = (vec![0; n], vec![0; n]);
+    let (mut inputs, mut nodes) = (Vec::new(), 0);
+    while inputs.len() < FEWEST || (nodes < NODES && inputs.len() < MOST) {
+        let input = input(Call::Ml, n, inputs.len() as u64);
+        assert_same(&input.case);
+        nodes += rust_ml(&input, &mut out, scratch);
+        inputs.push(input);
+    }
+    let mut rust = || inputs.iter().map(|i| rust_ml(i, &mut out, scratch)).sum();
+    let mut port = || inputs.iter().map(|i| port::nearest_ml(&i.case, &mut other).first).sum();
+    let times = in_turns(nodes, [&mut rust, &mut port]);
+    let size = format!("{} nodes a call", nodes / inputs.len() as u64);
+    print(&format!("nearest_ml, n = {n}, ns a node"), inputs.len(), &size, nodes as f64, times);
+}
+
+// ---- list
+
+fn rust_list(input: &Input, radius: f64, scratch: &mut EnumerationScratch) -> usize {
+    input.table.list(&input.case.target, radius, AMPLE, scratch).unwrap().len()
+}
+
+/// The radius at which the Rust lists `points`, or as near as a bisection comes.
+fn radius_of(input: &Input, points: usize, scratch: &mut EnumerationScratch) -> f64 {
+    let (mut low, mut high) = (0.0, input.case.weights.iter().sum::<f64>() / 16.0);
+    // Small steps: a ball twice as wide has thousands of times the points.
+    while rust_list(input, high, scratch) < points {
+        (low, high) = (high, high * 1.15);
+    }
+    for _ in 0..40 {
+        let middle = f64::midpoint(low, high);
+        match rust_list(input, middle, scratch) {
+            found if found == points => return middle,
+            found if found < points => low = middle,
+            _ => high = middle,
+        }
+    }
+    high
+}
+
+fn time_list(n: usize, points: usize) {
+    let scratch = &mut EnumerationScratch::new();
+    let mut inputs: Vec<Input> = (0..10).map(|k| input(Call::List, n, k)).collect();
+    for input in &mut inputs {
+        input.case.radius = radius_of(input, points, scratch);
+        input.case = input.case.clone().with_places(4096);
+        assert_same(&input.case);
+    }
+    let (mut distances, mut integers) = (vec![0.0; 4096], vec![0; 4096 * n]);
+    let nodes = |i: &Input| compare::paper::opened(&i.case, i.case.radius, AMPLE).unwrap();
+    let opened: u64 = inputs.iter().map(nodes).sum();
+    let mut rust = || inputs.iter().map(|i| rust_list(i, i.case.radius, scratch) as u64).sum();
+    let found = rust();
+    let mut port = || inputs.iter().map(|i| port::list(&i.case, &mut distances, &mut integers).second).sum();
+    let times = in_turns(found, [&mut rust, &mut port]);
+    let calls = inputs.len() as u64;
+    let size = format!("{} points, {} nodes a call", found / calls, opened / calls);
+    print(&format!("list, n = {n}, µs a call"), inputs.len(), &size, calls as f64 * 1e3, times);
+}
+
+fn main() {
+    println!("| call | inputs | size | Rust, best | port, best | ratio | Rust, median | port, median | ratio |");
+    println!("|---|---:|---|---:|---:|---:|---:|---:|---:|");
+    for n in [8, 12, 16, 20, 23] {
+        time_ml(n);
+    }
+    for (n, points) in [(8, 256), (8, 4000), (16, 256), (16, 4000)] {
+        time_list(n, points);
+    }
+}

@@ -1,0 +1,125 @@
+//! A case: one call with all its arguments.
+
+use std::fmt;
+
+#[derive(Clone, Copy, PartialEq, Eq, Debug)]
+pub enum Call {
+    Nearest,
+    Seeded,
+    Ml,
+    List,
+    Round,
+    Plane,
+    RoundAway,
+    Distance,
+}
+
+use Call::{Distance, List, Ml, Nearest, Plane, Round, RoundAway, Seeded};
+
+pub const CALLS: [Call; 8] = [Nearest, Seeded, Ml, List, Round, Plane, RoundAway, Distance];
+
+impl Call {
+    /// The name that the oracle's lines have for it.
+    #[must_use]
+    pub const fn name(self) -> &'static str {
+        match self {
+            Nearest => "nearest",
+            Seeded => "nearest_seeded",
+            Ml => "nearest_ml",
+            List => "list",
+            Round => "round",
+            Plane => "nearest_plane",
+            RoundAway => "round_away",
+            Distance => "triangular_distance",
+        }
+    }
+
+    #[must_use]
+    pub const fn takes_table(self) -> bool {
+        !matches!(self, Round | RoundAway)
+    }
+
+    #[must_use]
+    pub const fn takes_radius(self) -> bool {
+        matches!(self, Nearest | Seeded | List)
+    }
+
+    #[must_use]
+    pub const fn takes_budget(self) -> bool {
+        matches!(self, Nearest | Seeded | Ml | List)
+    }
+
+    #[must_use]
+    pub const fn takes_candidate(self) -> bool {
+        matches!(self, Seeded | Distance)
+    }
+}
+
+/// Arguments that a call does not take stand here too, and are not handed on.
+#[derive(Clone, Debug)]
+pub struct Case {
+    pub call: Call,
+    pub weights: Vec<f64>,
+    pub mu: Vec<f64>,
+    /// The coefficients of `round` and `nearest_plane`, the argument of `round_away`.
+    pub target: Vec<f64>,
+    pub radius: f64,
+    pub budget: u64,
+    /// The point whose distance is asked.
+    pub candidate: Vec<i64>,
+    /// The output's length; in `list` the distances'.
+    pub places: usize,
+    /// The length of the points of `list`.
+    pub points: usize,
+}
+
+impl Case {
+    /// A call over a table with an output that fits it; a list has as many places as the table has dimensions.
+    #[must_use]
+    pub fn new(call: Call, weights: &[f64], mu: &[f64], target: &[f64], radius: f64, budget: u64) -> Self {
+        let n = weights.len();
+        let candidate = vec![0; n];
+        let (weights, mu, target) = (weights.to_vec(), mu.to_vec(), target.to_vec());
+        Self { call, weights, mu, target, radius, budget, candidate, places: n, points: n * n }
+    }
+
+    #[must_use]
+    pub fn with_places(mut self, places: usize) -> Self {
+        self.places = places;
+        self.points = places * self.weights.len();
+        self
+    }
+
+    #[must_use]
+    pub fn with_candidate(mut self, candidate: &[i64]) -> Self {
+        self.candidate = candidate.to_vec();
+        self
+    }
+}
+
+fn items<T>(list: &[T], item: impl Fn(&T) -> String) -> String {
+    if list.is_empty() { "-".into() } else { list.iter().map(item).collect::<Vec<_>>().join(",") }
+}
+
+fn bits(list: &[f64]) -> String {
+    items(list, |x| format!("{:016x}", x.to_bits()))
+}
+
+/// The oracle's line. The length of a list's points has no field there, and a table of the wrong size is none to it.
+impl fmt::Display for Case {
+    fn fmt(&self, out: &mut fmt::Formatter<'_>) -> fmt::Result {
+        write!(
+            out,
+            "{} {} {} {} {} {:016x} {} {} {}",
+            self.call.name(),
+            self.weights.len(),
+            bits(&self.weights),
+            bits(&self.mu),
+            bits(&self.target),
+            self.radius.to_bits(),
+            self.budget,
+            items(&self.candidate, i64::to_string),
+            self.places
+        )
+    }
+}

@@ -1,0 +1,139 @@
+//! What the port must answer: the Rust's answer under document 01's numbers, and document 01's own refusal where the
+//! Rust has none. Where both speak they must agree; if they do not, that is reported and document 01 stands.
+
+use crate::answer::{Answer, Report, before};
+use crate::case::{Call, Case};
+use crate::paper;
+use oracle::Enumerator;
+use oracle::enumerate::{EnumerationScratch, ListPoint};
+use oracle::error::DecodeError;
+
+pub struct Expected {
+    pub answer: Answer,
+    /// Where document 01's reading and the Rust differ.
+    pub disagreement: Option<String>,
+}
+
+/// The refusals that the Rust does not have; 18 is seen only when it has listed.
+const ADDED: [u32; 6] = [2, 3, 4, 5, 9, 14];
+
+/// No refusal: it stands where the Rust names an error that document 01 has no place for.
+const UNKNOWN: u32 = u32::MAX;
+
+#[must_use]
+pub fn expected(case: &Case) -> Expected {
+    let own = paper::refusal(case);
+    if let Some(report) = own.filter(|r| !asked(case, r.number)) {
+        return Expected { answer: Answer::untouched(case, report), disagreement: None };
+    }
+    match (own, rust(case)) {
+        (Some(report), rust) => {
+            let same = matches!(rust, Err(error) if agrees(error, report));
+            let disagreement = (!same).then(|| format!("document 01 refuses by {report:?}, the Rust says {rust:?}"));
+            Expected { answer: Answer::untouched(case, report), disagreement }
+        }
+        (None, Ok(answer)) => Expected { disagreement: second_reading(case, &answer), answer },
+        (None, Err(error)) => {
+            let report = search_refusal(case.call, error);
+            let stray = report.number == UNKNOWN;
+            let disagreement = stray.then(|| format!("document 01 takes the call, the Rust says {error:?}"));
+            Expected { answer: Answer::untouched(case, report), disagreement }
+        }
+    }
+}
+
+/// Whether the Rust has a verdict of its own where document 01 refuses by `number`. Its distance checks no lengths.
+fn asked(case: &Case, number: u32) -> bool {
+    !(ADDED.contains(&number) || (case.call == Call::Distance && matches!(number, 6 | 7)))
+}
+
+/// The Rust's names for document 01's numbers, with the same values.
+fn agrees(error: DecodeError, report: Report) -> bool {
+    let (numbers, same): (&[u32], Report) = match error {
+        DecodeError::LengthMismatch { expected, found } => (&[6, 10], Report::whole(0, expected as u64, found as u64)),
+        DecodeError::NonFinite { index } => (&[7], Report::whole(0, index as u64, 0)),
+        DecodeError::InvalidRadius { radius_sq } => (&[8, 11, 12, 13], Report::double(0, radius_sq)),
+        _ => return false,
+    };
+    numbers.contains(&report.number) && Report { number: 0, ..report } == same
+}
+
+/// 15 to 17, which a walk ends with.
+fn search_refusal(call: Call, error: DecodeError) -> Report {
+    match (error, call) {
+        (DecodeError::BudgetExhausted { nodes, radius_sq }, _) => {
+            Report { number: 15, first: nodes, second: 0, real: radius_sq.to_bits() }
+        }
+        (DecodeError::OutsideRadius { radius_sq }, Call::Nearest) => Report::double(16, radius_sq),
+        (DecodeError::OutsideRadius { radius_sq }, Call::Seeded | Call::Ml) => Report::double(17, radius_sq),
+        _ => Report::whole(UNKNOWN, 0, 0),
+    }
+}
+
+/// The Rust's answer to a case whose table passes checks 2 to 5.
+fn rust(case: &Case) -> Result<Answer, DecodeError> {
+    let table = Enumerator::from_table(&case.weights, &case.mu);
+    let Case { target, places, radius, budget, candidate, .. } = case;
+    let found = |(integers, nodes)| Answer { report: Report::whole(0, nodes, 0), integers, doubles: Vec::new() };
+    let plain = |integers| found((integers, 0));
+    match case.call {
+        Call::Nearest => oracle::nearest(&table, target, *places, *radius, *budget).map(found),
+        Call::Seeded => oracle::nearest_seeded(&table, target, *places, candidate, *radius, *budget).map(found),
+        Call::Ml => oracle::nearest_ml(&table, target, *places, *budget).map(found),
+        Call::List => listed(case, &table),
+        Call::Round => oracle::round(target, *places).map(plain),
+        Call::Plane => oracle::nearest_plane(&table, target, *places)
+            .map(|(integers, left)| Answer { doubles: left.iter().map(|x| x.to_bits()).collect(), ..plain(integers) }),
+        Call::RoundAway => Ok(plain(vec![oracle::rounded_away(target[0])])),
+        Call::Distance => table
+            .triangular_distance(target, candidate)
+            .map(|d| Answer { report: Report::double(0, d), ..plain(Vec::new()) }),
+    }
+}
+
+fn rust_list(case: &Case, table: &Enumerator, budget: u64) -> Result<Vec<ListPoint>, DecodeError> {
+    table.list(&case.target, case.radius, budget, &mut EnumerationScratch::new())
+}
+
+/// The Rust's list in the caller's slices, or 18. Its node count is the least budget that the Rust takes, which
+/// `second_reading` makes sure of.
+fn listed(case: &Case, table: &Enumerator) -> Result<Answer, DecodeError> {
+    let list = rust_list(case, table, case.budget)?;
+    if list.len() > case.places {
+        return Ok(Answer::untouched(case, Report::whole(18, list.len() as u64, 0)));
+    }
+    let (mut integers, mut doubles) = before(case);
+    let n = case.weights.len();
+    for (k, point) in list.iter().enumerate() {
+        doubles[k] = point.distance_sq().to_bits();
+        integers[k * n..(k + 1) * n].copy_from_slice(point.point());
+    }
+    let nodes = paper::opened(case, case.radius, case.budget).unwrap_or(u64::MAX);
+    Ok(Answer { report: Report::whole(0, nodes, list.len() as u64), integers, doubles })
+}
+
+/// Document 01's own reading beside a success of the Rust: where there is one, and how it differs.
+fn second_reading(case: &Case, answer: &Answer) -> Option<String> {
+    let same = match case.call {
+        Call::RoundAway | Call::Round => case.target.iter().map(|&x| paper::round_away(x)).eq(answer.integers.clone()),
+        Call::Plane => {
+            let mut left = case.target.clone();
+            paper::plane(&case.mu, &mut left) == answer.integers
+                && left.iter().map(|x| x.to_bits()).eq(answer.doubles.clone())
+        }
+        Call::Distance => {
+            let d = paper::distance(&case.weights, &case.mu, &case.target, &case.candidate);
+            d.to_bits() == answer.report.real
+        }
+        Call::List if answer.report.number == 0 => least_budget(case, answer.report.first),
+        _ => true,
+    };
+    (!same).then(|| format!("document 01's reading differs from the Rust's {answer}"))
+}
+
+/// Whether the Rust's list takes a budget of `nodes` and no smaller one.
+fn least_budget(case: &Case, nodes: u64) -> bool {
+    let table = Enumerator::from_table(&case.weights, &case.mu);
+    let refused = |below| matches!(rust_list(case, &table, below), Err(DecodeError::BudgetExhausted { .. }));
+    rust_list(case, &table, nodes).is_ok() && nodes.checked_sub(1).is_none_or(refused)
+}

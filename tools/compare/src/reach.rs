@@ -1,0 +1,39 @@
+//! How far a walk goes, by the Rust: so that cases stay short and budgets fall around the count.
+
+use crate::case::{Call, Case};
+use crate::paper;
+use oracle::Enumerator;
+use oracle::error::DecodeError;
+
+/// The nodes that the case's walk opens with a budget that suffices; `None` if more than `cap`. A case that its checks
+/// refuse has no walk.
+#[must_use]
+pub fn reach(case: &Case, cap: u64) -> Option<u64> {
+    let mut ample = case.clone();
+    ample.budget = cap;
+    if !case.call.takes_budget() || paper::refusal(&ample).is_some() {
+        return Some(0);
+    }
+    let table = Enumerator::from_table(&case.weights, &case.mu);
+    let Case { target, radius, candidate, places, .. } = case;
+    let found = match case.call {
+        Call::Nearest => oracle::nearest(&table, target, *places, *radius, cap),
+        Call::Seeded => oracle::nearest_seeded(&table, target, *places, candidate, *radius, cap),
+        Call::Ml => oracle::nearest_ml(&table, target, *places, cap),
+        _ => return paper::opened(case, *radius, cap),
+    };
+    match found {
+        Ok((_, nodes)) => Some(nodes),
+        // Without a point the radius never shrinks: the walk opens what a list opens.
+        Err(DecodeError::OutsideRadius { .. }) => paper::opened(case, *radius, cap),
+        Err(_) => None,
+    }
+}
+
+/// The number of points that the Rust lists within the budget.
+#[must_use]
+pub fn points(case: &Case, budget: u64) -> usize {
+    let table = Enumerator::from_table(&case.weights, &case.mu);
+    let scratch = &mut oracle::enumerate::EnumerationScratch::new();
+    table.list(&case.target, case.radius, budget, scratch).map_or(0, |list| list.len())
+}

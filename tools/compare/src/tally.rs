@@ -1,0 +1,88 @@
+//! What a run met: calls by dimension, and answers by number.
+
+use crate::answer::Answer;
+use crate::case::{CALLS, Call, Case};
+use std::time::Duration;
+
+const DIMENSIONS: usize = 25;
+const NUMBERS: usize = 19;
+
+#[derive(Default)]
+pub struct Tally {
+    by_number: [[u64; NUMBERS]; CALLS.len()],
+    by_dimension: [[u64; DIMENSIONS]; CALLS.len()],
+    /// Searches and lists that succeeded, by dimension.
+    found: [u64; DIMENSIONS],
+    /// Nodes of the searches that succeeded, and of those that their budget ended.
+    nodes: u64,
+    /// Points and lists found with a coordinate beyond 2^53, and with one within 1,024 of an end of i64.
+    lossy: u64,
+    ends: u64,
+}
+
+fn row(name: &str, cells: &[u64]) -> String {
+    let cells: String = cells.iter().map(|k| format!(" {k} |")).collect();
+    format!("| {name} |{cells}\n")
+}
+
+/// The integers that a search wrote: a list's slice goes on after its points.
+fn found_integers<'a>(case: &Case, answer: &'a Answer) -> &'a [i64] {
+    let written =
+        if case.call == Call::List { case.weights.len() * answer.report.second as usize } else { case.places };
+    &answer.integers[..written]
+}
+
+fn sum<const N: usize>(rows: &[[u64; N]]) -> [u64; N] {
+    std::array::from_fn(|k| rows.iter().map(|row| row[k]).sum())
+}
+
+impl Tally {
+    pub fn count(&mut self, case: &Case, answer: &Answer) {
+        let kind = case.call as usize;
+        let number = answer.report.number as usize;
+        self.by_number[kind][number.min(NUMBERS - 1)] += 1;
+        let n = if case.call.takes_table() { case.weights.len() } else { case.target.len() };
+        self.by_dimension[kind][n.min(DIMENSIONS - 1)] += 1;
+        if case.call.takes_budget() && (number == 0 || number == 15) {
+            self.nodes += answer.report.first;
+        }
+        if case.call.takes_budget() && number == 0 {
+            self.found[n.min(DIMENSIONS - 1)] += 1;
+            let beyond = |limit: u64| u64::from(found_integers(case, answer).iter().any(|z| z.unsigned_abs() > limit));
+            self.lossy += beyond(1 << 53);
+            self.ends += beyond((1 << 63) - 1024);
+        }
+    }
+
+    #[must_use]
+    pub fn total(&self) -> u64 {
+        self.by_number.iter().flatten().sum()
+    }
+
+    /// Two markdown tables and a line.
+    #[must_use]
+    pub fn text(&self, time: Duration) -> String {
+        let mut text = String::from("| call | success |");
+        text.extend((2..NUMBERS).map(|k| format!(" {k} |")));
+        text.push_str(&format!("\n|---|{}\n", "---:|".repeat(NUMBERS - 1)));
+        let numbers = |cells: &[u64]| [&cells[..1], &cells[2..]].concat();
+        for call in CALLS {
+            text.push_str(&row(call.name(), &numbers(&self.by_number[call as usize])));
+        }
+        text.push_str(&row("all", &numbers(&sum(&self.by_number))));
+        text.push_str("\n| n |");
+        text.extend((0..DIMENSIONS - 1).map(|k| format!(" {k} |")));
+        text.push_str(&format!(" more |\n|---|{}\n", "---:|".repeat(DIMENSIONS)));
+        for call in CALLS {
+            text.push_str(&row(call.name(), &self.by_dimension[call as usize]));
+        }
+        text.push_str(&row("all", &sum(&self.by_dimension)));
+        text.push_str(&row("points and lists found", &self.found));
+        let Self { nodes, lossy, ends, .. } = self;
+        let (cases, seconds) = (self.total(), time.as_secs_f64());
+        text.push_str(&format!(
+            "\n{cases} cases, {nodes} nodes, {seconds:.1} s; found beyond 2^53: {lossy}, at an end of i64: {ends}\n"
+        ));
+        text
+    }
+}
