@@ -1,6 +1,7 @@
 // The children of a level, each with its double, its term and the state after it: the step that comes next, and
-// whether the upward and the downward direction are open. The lines in `stdout` are those of the Rust's `Children`,
-// cut out of enumerate.rs and run.
+// whether the upward and the downward direction are open. The lines in `stdout` are those of the Rust's `Children`: this
+// program compiled as Rust, with the oracle in the place of the crate `children`
+// (tools/oracle/examples/children_test.rs).
 use children::Child;
 use children::Children;
 use children::Level;
@@ -78,6 +79,10 @@ fn main() {
         1.0,
         4,
     );
+    // seven integers share the double of the centre, more of them away from 0: the direction towards 0 closes by the test
+    // while the other goes on
+    level(b"2^55\n", 36028797018963968.0, 0.0, 1.0, 10);
+    level(b"-2^55\n", -36028797018963968.0, 0.0, 1.0, 10);
     // many children, and more than the program counts
     level(b"0.4\n", 0.4, 400.0, 1.0, 12);
     level(b"-7.3\n", -7.3, 1000000.0, 1.0, 2);

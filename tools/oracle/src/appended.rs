@@ -22,3 +22,29 @@ impl<T: Int> Enumerator<T> {
         triangular_distance(&self.mu, &self.weights, target, point)
     }
 }
+
+/// A level's generator, which is private: its children, and the state after them.
+#[derive(Debug, Clone)]
+pub struct Zigzag(Children);
+
+impl Zigzag {
+    /// None where the level has no children.
+    #[must_use]
+    pub fn new(center: f64, remaining: f64, weight: f64) -> Option<Self> {
+        Children::new(center, remaining, weight).map(Self)
+    }
+
+    /// The number of the next step, and whether the upward and the downward direction are closed.
+    #[must_use]
+    pub const fn state(&self) -> (i64, bool, bool) {
+        (self.0.step, self.0.positive_done, self.0.negative_done)
+    }
+}
+
+impl Iterator for Zigzag {
+    type Item = i64;
+
+    fn next(&mut self) -> Option<i64> {
+        self.0.next()
+    }
+}
