@@ -4,13 +4,13 @@ use mathlib.Core.Bool.{Bool, true, false, cond}
 use Prim.Native.Nat.{ℕ, zero, suc, _<_, _≤_, _+_, _-_, _^_}
 use native.Mathlib.Omega.{arith}
 use lib.Dec.{ltb}
-use lib.IntN.{ℤ, pos, negsuc, _+ℤ_, _-ℤ_, subℕ}
-use lib.Signed.{mag, ltZ}
+use lib.IntN.{ℤ, pos, negsuc, negℤ, _+ℤ_, _-ℤ_, subℕ}
+use lib.Signed.{mag, leZ, ltZ}
 use mir.Syntax.{w64}
 use mir.Val.{SFits, toZ, ofZ}
 use mir.Facts.{toZ-pos}
 use mir.ValLaws.{toZ-ofZ}
-use borrow.Author.Tests.{le-ltb, lt-ltb, ltb-false, ltb-true}
+use borrow.Author.Tests.{le-ltb, lt-ltb, ltb-false, ltb-true, leb-true}
 use Rattle.children.specs.declared.Moved.the-variants.{In, Out}
 use Rattle.children.specs.View.{movedOf}
 
@@ -45,6 +45,19 @@ down-in (pos a) zero hz hm e = omega arith
 down-in (negsuc a) zero hz hm e = mag-sub 0 (suc a) (2 ^ 63) (omega arith) (omega arith) (omega arith)
 down-in (pos a) (suc k) hz hm e = mag-sub a (suc k) (2 ^ 63) hz (omega arith) (omega arith)
 down-in (negsuc a) (suc k) hz hm e = let h : a ≤ 2 ^ 63 - suc (suc k) = ltb-false (2 ^ 63 - suc (suc k)) a e in omega arith
+
+-- ---- far from the ends, every result is an i64
+signed-sum : (z : ℤ) (m : ℕ) (up : Bool) → z +ℤ cond up (pos m) (negℤ (pos m)) ≡ cond up (z +ℤ pos m) (z -ℤ pos m)
+signed-sum z m true = refl
+signed-sum z m false = refl
+
+near-size : (z : ℤ) (m : ℕ) (up : Bool) → m < 2 ^ 62 → leZ (negsuc (2 ^ 62 - 1)) z ≡ true → ltZ z (pos (2 ^ 62)) ≡ true → mag (cond up (z +ℤ pos m) (z -ℤ pos m)) < 2 ^ 63
+near-size (pos a) m true h low high = let l : a < 2 ^ 62 = ltb-true a (2 ^ 62) high in omega arith
+near-size (pos a) zero false h low high = let l : a < 2 ^ 62 = ltb-true a (2 ^ 62) high in omega arith
+near-size (pos a) (suc k) false h low high = let l : a < 2 ^ 62 = ltb-true a (2 ^ 62) high in mag-sub a (suc k) (2 ^ 63) (omega arith) (omega arith) (omega arith)
+near-size (negsuc a) m true h low high = let l : a ≤ 2 ^ 62 - 1 = leb-true a (2 ^ 62 - 1) low in mag-sub m (suc a) (2 ^ 63) (omega arith) (omega arith) (omega arith)
+near-size (negsuc a) zero false h low high = let l : a ≤ 2 ^ 62 - 1 = leb-true a (2 ^ 62 - 1) low in mag-sub 0 (suc a) (2 ^ 63) (omega arith) (omega arith) (omega arith)
+near-size (negsuc a) (suc k) false h low high = let l : a ≤ 2 ^ 62 - 1 = leb-true a (2 ^ 62 - 1) low in omega arith
 
 -- ---- where it holds, the result is none
 up-out : (z : ℤ) (m : ℕ) → m < 2 ^ 63 → ltZ (pos (2 ^ 63 - 1 - m)) z ≡ true → ltb (mag (z +ℤ pos m)) (2 ^ 63) ≡ false
@@ -98,3 +111,15 @@ module _ (z : ℤ) (m : ℕ) (fz : SFits w64 z) (fm : m < 2 ^ 63) where
 
   pub moved-down-in : belowTest ≡ false → In (toZ w64 (ofZ w64 (toZ w64 (ofZ w64 z) -ℤ toZ w64 m))) ≡ movedOf (z -ℤ pos m)
   moved-down-in e = is-in (toZ w64 (ofZ w64 z) -ℤ toZ w64 m) (z -ℤ pos m) (rw (toZ-ofZ w64 z fz, toZ-pos w64 fm)) (fits-sub e)
+
+-- the sum with a signed magnitude x
+module _ (z : ℤ) (m : ℕ) (up : Bool) (x : ℤ) (fz : SFits w64 z) (fx : SFits w64 x) (given : x ≡ cond up (pos m) (negℤ (pos m))) where
+  sum-is : toZ w64 (ofZ w64 z) +ℤ toZ w64 (ofZ w64 x) ≡ cond up (z +ℤ pos m) (z -ℤ pos m)
+  sum-is = rw (toZ-ofZ w64 z fz, toZ-ofZ w64 x fx, given) (signed-sum z m up)
+
+  module _ (small : m < 2 ^ 62) (low : leZ (negsuc (2 ^ 62 - 1)) (toZ w64 (ofZ w64 z)) ≡ true) (high : ltZ (toZ w64 (ofZ w64 z)) (pos (2 ^ 62)) ≡ true) where
+    pub fits-near : SFits w64 (toZ w64 (ofZ w64 z) +ℤ toZ w64 (ofZ w64 x))
+    fits-near = rw sum-is (record { sfits = near-size z m up small (rw (toZ-ofZ w64 z fz) at low) (rw (toZ-ofZ w64 z fz) at high) })
+
+    pub moved-near : In (toZ w64 (ofZ w64 (toZ w64 (ofZ w64 z) +ℤ toZ w64 (ofZ w64 x)))) ≡ movedOf (cond up (z +ℤ pos m) (z -ℤ pos m))
+    moved-near = is-in (toZ w64 (ofZ w64 z) +ℤ toZ w64 (ofZ w64 x)) (cond up (z +ℤ pos m) (z -ℤ pos m)) sum-is fits-near

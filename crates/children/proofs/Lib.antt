@@ -2,4 +2,4 @@
 pub mod Terms
 pub mod Candidates
 pub mod Outcomes
-pub mod Loop
+pub mod Steps

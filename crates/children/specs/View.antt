@@ -1,5 +1,6 @@
 -- What the code's values stand for. Definitions only.
-use mathlib.Core.Bool.{_&&_, cond}
+use Prim.Native.Nat.{ℕ}
+use mathlib.Core.Bool.{Bool, true, _&&_, cond}
 use lib.IntN.{ℤ}
 use lib.Ieee.{Float}
 use Rattle.rounding.specs.Integers.{toDouble, isI64}
@@ -16,7 +17,7 @@ use Rattle.children.specs.declared.Moved.the-variants.{In, Out}
 use Rattle.children.specs.declared.Tested.{Tested}
 use Rattle.children.specs.declared.Tested.the-variants.{Passed, Failed}
 
--- a generator of the code, and back
+-- a generator of the code, and back below
 abbrev pub zigzag : Children → Zigzag
 zigzag c = record {
   center = c .center;
@@ -27,6 +28,19 @@ zigzag c = record {
   emittedNearest = c .«emitted_nearest»;
   positiveDone = c .«positive_done»;
   negativeDone = c .«negative_done»;
+}
+
+-- a generator after its nearest integer, at another step
+abbrev pub at : Children → ℕ → Bool → Bool → Zigzag
+at self step positiveDone negativeDone = record {
+  center = self .center;
+  remaining = self .remaining;
+  weight = self .weight;
+  nearest = self .nearest;
+  step = step;
+  emittedNearest = true;
+  positiveDone = positiveDone;
+  negativeDone = negativeDone;
 }
 
 abbrev pub children : Zigzag → Children

@@ -1,11 +1,13 @@
 // The integers of a level, in zigzag order from the centre outward.
 ghost use mathlib.Core.Path.{_≡_};
-ghost use mathlib.Core.Bool.{cond, Bool·beq};
-ghost use Prim.Native.Nat.{_<_, _^_, _%_};
+ghost use mathlib.Core.Bool.{true, false, cond, not, _&&_, _||_, Bool·beq};
+ghost use Prim.Native.Nat.{_+_, _≤_, _<_, _^_, _%_};
 ghost use lib.Dec.{eqb};
-ghost use lib.IntN.{pos, _+ℤ_, _-ℤ_};
+ghost use lib.IntN.{pos, negℤ, _+ℤ_, _-ℤ_};
+ghost use lib.Ieee.{le};
+ghost use Rattle.rounding.specs.Integers.{toDouble};
 ghost use Rattle.definitions.specs.Zigzag as Z;
-ghost use Rattle.children.specs.View.{zigzag, trialOf, levelOf, childOf, movedOf, testedOf};
+ghost use Rattle.children.specs.View.{zigzag, at, trialOf, levelOf, childOf, movedOf, testedOf};
 use distance::term;
 use rounding::rounded_away;
 use rounding::to_double;
@@ -54,11 +56,30 @@ enum Tested {
     Failed,
 }
 
-// A step's candidate.
+// A magnitude with the sign of its direction.
+fn signed(magnitude: u64, positive: bool) -> i64
+    requires { ⌜ magnitude < 2 ^ 62 ⌝ }
+    ensures { λ r. ⌜ r ≡ cond positive (pos magnitude) (negℤ (pos magnitude)) ⌝ }
+{
+    let m = magnitude as i64;
+    if positive {
+        return m;
+    }
+    0 - m
+}
+
+// A step's candidate. Far from the ends of i64, one sum serves both directions: which one it is, is hard to foresee.
 fn candidate(nearest: i64, magnitude: u64, positive: bool) -> Moved
     requires { ⌜ magnitude < 2 ^ 63 ⌝ }
     ensures { λ r. ⌜ r ≡ movedOf (cond positive (nearest +ℤ pos magnitude) (nearest -ℤ pos magnitude)) ⌝ }
 {
+    if magnitude < 4611686018427387904 {
+        if nearest >= -4611686018427387904 {
+            if nearest < 4611686018427387904 {
+                return Moved::In(nearest + signed(magnitude, positive));
+            }
+        }
+    }
     let m = magnitude as i64;
     if positive {
         if nearest > 9223372036854775807 - m {
@@ -104,6 +125,47 @@ fn done(positive: bool, above: bool, below: bool) -> bool
     below
 }
 
+// The number of a step, or of the one after it.
+fn advanced(step: u64, skipped: bool) -> u64
+    requires { ⌜ step < 2 ^ 62 ⌝ }
+    ensures { λ r. ⌜ r ≡ cond skipped (step + 1) step ⌝ }
+{
+    if skipped {
+        return step + 1;
+    }
+    step
+}
+
+// A direction, or the other one.
+fn turned(positive: bool, skipped: bool) -> bool
+    ensures { λ r. ⌜ r ≡ cond skipped (not positive) positive ⌝ }
+{
+    if skipped {
+        return !positive;
+    }
+    positive
+}
+
+// Whether both hold.
+fn both(a: bool, b: bool) -> bool
+    ensures { λ r. ⌜ r ≡ (a && b) ⌝ }
+{
+    if a {
+        return b;
+    }
+    false
+}
+
+// Whether one of them holds.
+fn either(a: bool, b: bool) -> bool
+    ensures { λ r. ⌜ r ≡ (a || b) ⌝ }
+{
+    if a {
+        return true;
+    }
+    b
+}
+
 impl Children {
     // A level's generator before its first child. It is Closed, a level without children, where the nearest integer's
     // term is not at most `remaining`.
@@ -141,6 +203,50 @@ impl Children {
         Tested::Failed
     }
 
+    // The child of the second step that is tried, unless its direction is closed too: the first has closed the other one.
+    fn last_tried(self, step: u64, positive: bool) -> Child
+        requires { ⌜ step < 2 ^ 63 ⌝ }
+        requires { ⌜ self .«emitted_nearest» ≡ true ⌝ }
+        requires { ⌜ positive ≡ Bool·beq (eqb (step % 2) 1) (le (toDouble (self .nearest)) (self .center)) ⌝ }
+        ensures { λ r. ⌜ r ≡ childOf (Z.secondStep (Z.none (at self step (not positive || self .«positive_done») (positive || self .«negative_done»)))) ⌝ }
+    {
+        if done(positive, self.positive_done, self.negative_done) {
+            return Child::End;
+        }
+        let Tested::Passed(last) = self.tested((step + 1) / 2, positive) else {
+            return Child::End;
+        };
+        Child::At(
+            last,
+            Children {
+                step: step + 1,
+                positive_done: either(!positive, self.positive_done),
+                negative_done: either(positive, self.negative_done),
+                ..self
+            },
+        )
+    }
+
+    // The child of a step whose direction is open, or of the step after it, or the end.
+    fn tried(self, step: u64, positive: bool) -> Child
+        requires { ⌜ step ≤ 2 ^ 62 ⌝ }
+        requires { ⌜ self .«emitted_nearest» ≡ true ⌝ }
+        requires { ⌜ positive ≡ Bool·beq (eqb (step % 2) 1) (le (toDouble (self .nearest)) (self .center)) ⌝ }
+        requires { ⌜ cond positive (self .«positive_done») (self .«negative_done») ≡ false ⌝ }
+        ensures { λ r. ⌜ r ≡ childOf (Z.secondStep (Z.oneStep (at self step (self .«positive_done») (self .«negative_done»)))) ⌝ }
+    {
+        let Tested::Passed(t) = self.tested((step + 1) / 2, positive) else {
+            return self.last_tried(step + 1, !positive);
+        };
+        Child::At(
+            t,
+            Children {
+                step: step + 1,
+                ..self
+            },
+        )
+    }
+
     // The next child with the generator after it, or the end: both directions are closed. A child takes at most two
     // steps, so the bound on `step` lasts for 2^61 children.
     pub fn next(self) -> Child
@@ -158,34 +264,11 @@ impl Children {
             );
         }
         let positive_first = self.center >= nearest.value;
-        let mut step = self.step;
-        let mut positive_done = self.positive_done;
-        let mut negative_done = self.negative_done;
-        while !positive_done || !negative_done {
-            let magnitude = (step + 1) / 2;
-            let positive = upward(step, positive_first);
-            step += 1;
-            if done(positive, positive_done, negative_done) {
-                continue;
-            }
-            let Tested::Passed(t) = self.tested(magnitude, positive) else {
-                if positive {
-                    positive_done = true;
-                    continue;
-                }
-                negative_done = true;
-                continue;
-            };
-            return Child::At(
-                t,
-                Children {
-                    step,
-                    positive_done,
-                    negative_done,
-                    ..self
-                },
-            );
+        if both(self.positive_done, self.negative_done) {
+            return Child::End;
         }
-        Child::End
+        let toward = upward(self.step, positive_first);
+        let skipped = done(toward, self.positive_done, self.negative_done);
+        self.tried(advanced(self.step, skipped), turned(toward, skipped))
     }
 }

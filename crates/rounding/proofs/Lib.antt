@@ -23,3 +23,4 @@ pub mod Doubling
 pub mod Saturation
 pub mod Comparison
 pub mod Constants
+pub mod Guess

@@ -5,6 +5,7 @@ ghost use mathlib.Core.Bool.{false};
 ghost use Prim.Native.Nat.{_<_, _^_};
 ghost use lib.Dec.{T};
 ghost use lib.IntN.{pos, negℤ};
+ghost use lib.Signed.{mag};
 ghost use lib.Ieee.{binary64, ofBits, toBits, fin, lt, neg};
 ghost use lib.Ieee.Scale.{finite};
 ghost use Rattle.rounding.specs.Integers.{roundAway, toDouble};
@@ -61,10 +62,38 @@ pub struct RoundedAway {
     pub double: f64,
 }
 
-// `round_away` of v, and `to_double` of that.
+// An integer that may be the nearest to v. A sum from 2^52 to 2^53 counts the whole numbers by its last digits, so these
+// tell it for a v below 2^51; elsewhere it is any.
+fn guessed(v: f64) -> i64
+    ensures { λ r. ⌜ mag r < 2 ^ 52 ⌝ }
+{
+    let bits = to_bits(v + 6755399441055744.0);
+    if bits < 4841369599423283200 {
+        return 0;
+    }
+    let digits = bits - 4841369599423283200;
+    if digits < 4503599627370496 {
+        return digits as i64 - 2251799813685248;
+    }
+    0
+}
+
+// `round_away` of v, and `to_double` of that. A guess is taken that is nearer to v than a half; a half itself, and what
+// no guess meets, is worked out.
 pub fn rounded_away(v: f64) -> RoundedAway
     ensures { λ r. ⌜ (r .integer ≡ roundAway v) × (r .double ≡ toDouble (roundAway v)) ⌝ }
 {
+    let near = guessed(v);
+    let double = to_double(near);
+    let off = v - double;
+    if off < 0.5 {
+        if off > -0.5 {
+            return RoundedAway {
+                integer: near,
+                double,
+            };
+        }
+    }
     let integer = round_away(v);
     RoundedAway {
         integer,
