@@ -16,7 +16,7 @@ pub enum Section {
 }
 
 // The number in `size` bytes from an offset on, little-endian.
-pub fn number_at(input: &[u8], offset: usize, size: usize) -> u64
+fn number_at(input: &[u8], offset: usize, size: usize) -> u64
     requires { ⌜ size ≤ 8 ⌝ }
     requires { ⌜ offset + size ≤ length (now input) ⌝ }
     ensures { λ r. ⌜ r ≡ numberAt (now (input .entry)) offset size ⌝ }
@@ -32,7 +32,7 @@ pub fn number_at(input: &[u8], offset: usize, size: usize) -> u64
 }
 
 // The section at an offset, whose count is to be from `low` to `high`.
-pub fn section_at(input: &[u8], low: usize, high: usize, offset: usize) -> Section
+fn section_at(input: &[u8], low: usize, high: usize, offset: usize) -> Section
     requires { ⌜ offset ≤ length (now input) ⌝ }
     ensures { λ r. ⌜ r ≡ sectionOf (D.section (now (input .entry)) (within low high) offset) ⌝ }
     ensures { λ r. ⌜ Ends (now (input .entry)) r ⌝ }
@@ -99,7 +99,7 @@ fn ended(input: &[u8], n: usize, budget: Section) -> Layout
 }
 
 // The layout of a job's bytes: five sections, then nothing left over.
-pub fn layout_at(input: &[u8]) -> Layout
+fn layout_at(input: &[u8]) -> Layout
     ensures { λ r. ⌜ layoutOf (now (input .entry)) r ≡ D.jobOf (now (input .entry)) ⌝ }
     ensures { λ r. ⌜ Sized (now (input .entry)) r ⌝ }
 {
@@ -117,7 +117,7 @@ pub fn layout_at(input: &[u8]) -> Layout
 }
 
 // The doubles from an offset on, by their bits, go to out.
-pub fn doubles_at(input: &[u8], offset: usize, out: &mut [f64])
+fn doubles_at(input: &[u8], offset: usize, out: &mut [f64])
     requires { ⌜ offset + 8 * length (now out) ≤ length (now input) ⌝ }
     ensures { λ r. ⌜ now (out .exit) ≡ doubles (itemsAt (now (input .entry)) offset (length (now (out .entry)))) ⌝ }
 {
