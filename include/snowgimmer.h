@@ -44,19 +44,19 @@ extern "C" {
 int64_t snowgimmer_round_away(double x);
 
 /* Finds the nearest integer vector inside the radius and writes it to out, coordinate 0 first: first is the number of
- * nodes. Refused: 2 to 9, 15, 16. Stack: 50 kB. */
+ * nodes. Refused: 2 to 9, 15, 16. Stack: 60 kB. */
 uint32_t snowgimmer_nearest(const double *weights, size_t weights_len, const double *mu, size_t mu_len,
     const double *target, size_t target_len, int64_t *out, size_t out_len, double radius, uint64_t budget,
     uint64_t *first, uint64_t *second, double *real);
 
 /* The same inside the widened radius, radius + (2^-52 * max(radius, 1)) * 4n, a candidate inside the radius being
- * known. Refused: 2 to 13, 15, 17. Stack: 50 kB. */
+ * known. Refused: 2 to 13, 15, 17. Stack: 60 kB. */
 uint32_t snowgimmer_nearest_seeded(const double *weights, size_t weights_len, const double *mu, size_t mu_len,
     const double *target, size_t target_len, int64_t *out, size_t out_len, const int64_t *candidate,
     size_t candidate_len, double radius, uint64_t budget, uint64_t *first, uint64_t *second, double *real);
 
 /* The same with the nearest-plane point as candidate and its distance as radius. Refused: 2 to 7, 9, 11, 13, 15, 17.
- * Stack: 50 kB. */
+ * Stack: 60 kB. */
 uint32_t snowgimmer_nearest_ml(const double *weights, size_t weights_len, const double *mu, size_t mu_len,
     const double *target, size_t target_len, int64_t *out, size_t out_len, uint64_t budget, uint64_t *first,
     uint64_t *second, double *real);

@@ -188,6 +188,20 @@ impl Children {
         Level::Closed
     }
 
+    // The first child of a generator that has given none, with the generator after it.
+    pub fn first(self) -> Child
+        requires { ⌜ self .«emitted_nearest» ≡ false ⌝ }
+        ensures { λ r. ⌜ r ≡ childOf (Z.next (zigzag self)) ⌝ }
+    {
+        Child::At(
+            trial_of(self.weight, self.center, self.nearest),
+            Children {
+                emitted_nearest: true,
+                ..self
+            },
+        )
+    }
+
     // The candidate at a magnitude in a direction: it is an i64 and its term is at most what remained, or not.
     fn tested(self, magnitude: u64, positive: bool) -> Tested
         requires { ⌜ magnitude < 2 ^ 63 ⌝ }
@@ -253,17 +267,10 @@ impl Children {
         requires { ⌜ self .step < 2 ^ 62 ⌝ }
         ensures { λ r. ⌜ r ≡ childOf (Z.next (zigzag self)) ⌝ }
     {
-        let nearest = trial_of(self.weight, self.center, self.nearest);
         if !self.emitted_nearest {
-            return Child::At(
-                nearest,
-                Children {
-                    emitted_nearest: true,
-                    ..self
-                },
-            );
+            return self.first();
         }
-        let positive_first = self.center >= nearest.value;
+        let positive_first = self.center >= to_double(self.nearest);
         if both(self.positive_done, self.negative_done) {
             return Child::End;
         }

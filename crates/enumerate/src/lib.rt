@@ -70,6 +70,8 @@ pub fn nearest_walk(
     let mut rest = [0.0; 23];
     let mut distances = [0.0; 0];
     let mut points = [0i64; 0];
+    let mut found = 0;
+    let mut exhausted = false;
     let end = run(
         mu,
         weights,
@@ -77,16 +79,18 @@ pub fn nearest_walk(
         &mut rest,
         &mut distances,
         &mut points,
+        &mut found,
+        &mut exhausted,
         false,
         budget,
         weights.len(),
         0.0,
         begun(radius),
     );
-    if end.exhausted {
+    if exhausted {
         return Ending::Exhausted(end.nodes, end.radius);
     }
-    if !end.found {
+    if found == 0 {
         return Ending::Nothing(end.nodes, end.radius);
     }
     copy_out(&end.best, out);

@@ -8,3 +8,4 @@ pub mod Found
 pub mod Ordering
 pub mod Endings
 pub mod Repeats
+pub mod Buffers

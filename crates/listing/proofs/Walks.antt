@@ -1,51 +1,38 @@
 -- How a walk's search, at its end, is the list walk of the definitions. Assumes nothing.
 use mathlib.Core.Path.{_≡_, ap, sym, _∙_}
-use mathlib.Core.Bool.{Bool, true, false, cond}
-use mathlib.Core.List.{List}
-use Prim.Native.Nat.{ℕ}
+use mathlib.Core.List.{List, reverse}
+use Prim.Native.Nat.{ℕ, min}
 use native.Mathlib.Omega.{arith}
+use lib.ListN.{length, take}
+use lib.IntN.{ℤ}
 use lib.Ieee.{Float}
 use Rattle.definitions.specs.Walk.{Walked, ended, exhausted}
 use Rattle.definitions.specs.Listing.{ListPoint}
-use Rattle.search.specs.Kept.{Kept}
-use Rattle.search.specs.declared.RecursiveSearch.{RecursiveSearch}
-use Rattle.search.proofs.Map.{mapped}
-use Rattle.search.proofs.Instances.{listOnly}
+use Rattle.sorting.specs.Rows.{rows}
+use Rattle.search.specs.View.{Search}
+use Rattle.search.proofs.Outcomes.{Found}
 use Rattle.listing.specs.View.{endingOf}
 use Rattle.listing.specs.declared.ListEnding.the-variants.{Ended}
 
--- a walk that ended is not exhausted
-ended≢exhausted : {K : Type 0} (k : K) (R S : Float) (m l : ℕ) → ended k R m ≡ exhausted l S → ⊥
-ended≢exhausted k R S m l e = let z : _≡_ {A = ℕ} 0 1 = cc in omega (arith, z)
+-- a walk that was exhausted has no list
+pub exhausted-unlisted : (w : Walked (List ListPoint)) (l : ℕ) (S : Float) → w ≡ exhausted l S → (ps : List ListPoint) (R : Float) (m : ℕ) → w ≡ ended ps R m → ⊥
+exhausted-unlisted w l S e ps R m q =
+    let x : ended ps R m ≡ exhausted l S = sym q ∙ e in
+    let z : _≡_ {A = ℕ} 0 1 = cc in
+    omega (arith, z)
 
--- k is what the search keeps at its end
-module _ (room : ℕ) (s : RecursiveSearch) (k : Kept) (w : Walked (List ListPoint)) (same : cond (s .exhausted) (exhausted (s .nodes) (s .radius)) (ended k (s .radius) (s .nodes)) ≡ mapped (listOnly room) w) where
-  at-end : (b : Bool) → s .exhausted ≡ b → cond b (exhausted (s .nodes) (s .radius)) (ended k (s .radius) (s .nodes)) ≡ mapped (listOnly room) w
-  at-end b e = ap (λ (x : Bool). cond x (exhausted (s .nodes) (s .radius)) (ended k (s .radius) (s .nodes))) (sym e) ∙ same
+module _ (n : ℕ) (s : Search) (distances : List Float) (points : List ℤ) (w : Walked (List ListPoint)) (l : Found n s distances points w) where
+  pub found-ending : Ended (s .nodes) (s .listed) ≡ endingOf w
+  found-ending = ap (Ended (s .nodes)) (sym (l .count)) ∙ sym (ap endingOf (l .is))
 
-  pub walk-exhausted : s .exhausted ≡ true → w ≡ exhausted (s .nodes) (s .radius)
-  walk-exhausted e = go w (sym (at-end true e))
-    where
-      go : (w : Walked (List ListPoint)) → mapped (listOnly room) w ≡ exhausted (s .nodes) (s .radius) → w ≡ exhausted (s .nodes) (s .radius)
-      go (exhausted m R) q = let a : m ≡ s .nodes = cc in let b : R ≡ s .radius = cc in ap (λ (k : ℕ). exhausted k R) a ∙ ap (exhausted (s .nodes)) b
-      go (ended ps R m) q = absurd (ended≢exhausted (listOnly room ps) R (s .radius) m (s .nodes) q)
-
-  -- a walk that was exhausted has no list
-  pub walk-unlisted : s .exhausted ≡ true → (ps : List ListPoint) (R : Float) (m : ℕ) → w ≡ ended ps R m → ⊥
-  walk-unlisted e ps R m q = ended≢exhausted ps R (s .radius) m (s .nodes) (sym q ∙ walk-exhausted e)
-
-  -- what it keeps is its list, as far as there was room
-  pub walk-kept : s .exhausted ≡ false → (ps : List ListPoint) (R : Float) (m : ℕ) → w ≡ ended ps R m → k ≡ listOnly room ps
-  walk-kept e ps R m q =
-      let x : ended k (s .radius) (s .nodes) ≡ ended (listOnly room ps) R m = at-end false e ∙ ap (mapped (listOnly room)) q in
-      cc
-
-  pub walk-ending : s .exhausted ≡ false → Ended (s .nodes) (k .count) ≡ endingOf w
-  walk-ending e = go w (at-end false e)
-    where
-      go : (w : Walked (List ListPoint)) → ended k (s .radius) (s .nodes) ≡ mapped (listOnly room) w → Ended (s .nodes) (k .count) ≡ endingOf w
-      go (exhausted m R) q = absurd (ended≢exhausted k (s .radius) R (s .nodes) m q)
-      go (ended ps R m) q =
-          let x : k ≡ listOnly room ps = cc in
-          let y : s .nodes ≡ m = cc in
-          ap (λ (j : ℕ). Ended j (k .count)) y ∙ ap (λ (v : Kept). Ended m (v .count)) x
+  -- the places hold its points in the order of their finding, as far as there was room
+  pub found-stored : (room : ℕ) → length distances ≡ room → (ps : List ListPoint) (R : Float) (m : ℕ) → w ≡ ended ps R m → rows n (min (length ps) room) distances points ≡ take room (reverse ps)
+  found-stored room e ps R m q =
+      let x : ended (l .all) (s .radius) (s .nodes) ≡ ended ps R m = sym (l .is) ∙ q in
+      let own : l .all ≡ ps = cc in
+      ap (λ (i : ℕ). rows n (min (length ps) i) distances points) (sym e)
+      ∙ ap (λ (xs : List ListPoint). rows n (min (length xs) (length distances)) distances points) (sym own)
+      ∙ ap (λ (k : ℕ). rows n (min k (length distances)) distances points) (l .count)
+      ∙ sym (l .stored)
+      ∙ ap (λ (xs : List ListPoint). take (length distances) (reverse xs)) own
+      ∙ ap (λ (k : ℕ). take k (reverse ps)) e

@@ -107,6 +107,8 @@ fn list_walk(
     ensures { λ r. ⌜ length (now (points .exit)) ≡ length (now (points .entry)) ⌝ }
 {
     let mut rest = [0.0; 23];
+    let mut found = 0;
+    let mut exhausted = false;
     let end = run(
         mu,
         weights,
@@ -114,16 +116,18 @@ fn list_walk(
         &mut rest,
         distances,
         points,
+        &mut found,
+        &mut exhausted,
         true,
         budget,
         weights.len(),
         0.0,
         begun(radius),
     );
-    if end.exhausted {
+    if exhausted {
         return ListEnding::Exhausted(end.nodes, end.radius);
     }
-    ListEnding::Ended(end.nodes, end.listed)
+    ListEnding::Ended(end.nodes, found)
 }
 
 // Writes the distances at the places of order, in that order, over the first ones.
@@ -269,6 +273,79 @@ fn list_into(
     }
 }
 
+// `list` once its checks have passed, with arrays for all 4,096 places.
+fn list_long(
+    weights: &[f64],
+    mu: &[f64],
+    target: &[f64],
+    distances: &mut [f64],
+    points: &mut [i64],
+    radius: f64,
+    budget: u64,
+) -> ListAnswer
+    requires { ⌜ C.listChecks (table (now weights) (now mu)) (now target) (now distances) (now points) radius budget ≡ pass ⌝ }
+    ensures { λ r. ⌜ answerOf r ≡ countsOf (C.list (table (now (weights .entry)) (now (mu .entry))) (now (target .entry)) (now (distances .entry)) (now (points .entry)) radius budget) ⌝ }
+    ensures { λ r. ⌜ now (distances .exit) ≡ C.listDistances (C.list (table (now (weights .entry)) (now (mu .entry))) (now (target .entry)) (now (distances .entry)) (now (points .entry)) radius budget) (now (distances .entry)) ⌝ }
+    ensures { λ r. ⌜ now (points .exit) ≡ C.listPoints (C.list (table (now (weights .entry)) (now (mu .entry))) (now (target .entry)) (now (distances .entry)) (now (points .entry)) radius budget) (now (points .entry)) ⌝ }
+{
+    let places = distances.len();
+    let size = points.len();
+    let mut measured = [0.0; 4096];
+    let mut vectors = [0i64; 94208];
+    let mut order = [0usize; 4096];
+    let mut spare = [0usize; 4096];
+    list_into(
+        weights,
+        mu,
+        target,
+        &mut measured[..places],
+        &mut vectors[..size],
+        &mut order[..places],
+        &mut spare[..places],
+        distances,
+        points,
+        radius,
+        budget,
+    )
+}
+
+// The same with at most 256 places, as the job has them: shorter arrays to clear.
+fn list_short(
+    weights: &[f64],
+    mu: &[f64],
+    target: &[f64],
+    distances: &mut [f64],
+    points: &mut [i64],
+    radius: f64,
+    budget: u64,
+) -> ListAnswer
+    requires { ⌜ C.listChecks (table (now weights) (now mu)) (now target) (now distances) (now points) radius budget ≡ pass ⌝ }
+    requires { ⌜ length (now distances) ≤ 256 ⌝ }
+    ensures { λ r. ⌜ answerOf r ≡ countsOf (C.list (table (now (weights .entry)) (now (mu .entry))) (now (target .entry)) (now (distances .entry)) (now (points .entry)) radius budget) ⌝ }
+    ensures { λ r. ⌜ now (distances .exit) ≡ C.listDistances (C.list (table (now (weights .entry)) (now (mu .entry))) (now (target .entry)) (now (distances .entry)) (now (points .entry)) radius budget) (now (distances .entry)) ⌝ }
+    ensures { λ r. ⌜ now (points .exit) ≡ C.listPoints (C.list (table (now (weights .entry)) (now (mu .entry))) (now (target .entry)) (now (distances .entry)) (now (points .entry)) radius budget) (now (points .entry)) ⌝ }
+{
+    let places = distances.len();
+    let size = points.len();
+    let mut measured = [0.0; 256];
+    let mut vectors = [0i64; 5888];
+    let mut order = [0usize; 256];
+    let mut spare = [0usize; 256];
+    list_into(
+        weights,
+        mu,
+        target,
+        &mut measured[..places],
+        &mut vectors[..size],
+        &mut order[..places],
+        &mut spare[..places],
+        distances,
+        points,
+        radius,
+        budget,
+    )
+}
+
 // Lists every integer vector that is admitted at the radius, by distance and then coordinates: the distances go to
 // `distances`, n coordinates for each to `points`. The answer has the number of nodes and of points. Places after the
 // last point keep their contents.
@@ -294,23 +371,8 @@ pub fn list(
         return ListAnswer::Refused(e);
     }
     let start = handed_on(radius);
-    let places = distances.len();
-    let size = points.len();
-    let mut measured = [0.0; 4096];
-    let mut vectors = [0i64; 94208];
-    let mut order = [0usize; 4096];
-    let mut spare = [0usize; 4096];
-    list_into(
-        weights,
-        mu,
-        target,
-        &mut measured[..places],
-        &mut vectors[..size],
-        &mut order[..places],
-        &mut spare[..places],
-        distances,
-        points,
-        start,
-        budget,
-    )
+    if distances.len() <= 256 {
+        return list_short(weights, mu, target, distances, points, start, budget);
+    }
+    list_long(weights, mu, target, distances, points, start, budget)
 }

@@ -8,14 +8,14 @@ use native.Mathlib.Omega.{arith}
 use lib.IntN.{ℤ}
 use lib.ListN.{length, set, length-set}
 use lib.Ieee.{Float, binary64, add, sub, le}
-use Rattle.rounding.specs.Integers.{toDouble}
+use Rattle.rounding.specs.Integers.{toDouble, roundAway}
 use Rattle.definitions.specs.Table.{weight, coordinate}
 use Rattle.definitions.specs.Distance.{center, term}
 use Rattle.definitions.specs.Seeds.{alongFrom}
 use Rattle.definitions.specs.Zigzag.{Zigzag, Next, child, Start, open-level, start, next}
 use Rattle.definitions.specs.Walk.{Walked, ended, exhausted, tryChildren, walk}
 use Rattle.definitions.proofs.Turns.{children-none, children-exhausted}
-use Rattle.definitions.proofs.Zigzags.{Follows, start-opens, next-follows}
+use Rattle.definitions.proofs.Zigzags.{Follows, startAt, start-opens, next-follows}
 use Rattle.distance.specs.Residuals.{places, residuals}
 use Rattle.distance.proofs.Places.{places-set, places-kept, places-next}
 use Rattle.distance.proofs.Centers.{center-below, residuals-below}
@@ -26,10 +26,9 @@ use Rattle.children.specs.declared.Child.the-variants.{At, End}
 use Rattle.children.specs.View.{zigzag, levelOf, childOf}
 use Rattle.children.proofs.Outcomes.{open-of, closed-of, at-of, end-of}
 use Rattle.search.specs.Kept.{Kept, leaf}
-use Rattle.search.specs.declared.RecursiveSearch.{RecursiveSearch}
-use Rattle.search.specs.View.{seen, walkFrom, Ready, Returned}
+use Rattle.search.specs.View.{Search, seen, walkFrom, Ready, Returned}
 use Rattle.search.proofs.Turns.{spent, passed, entered, walk-closed, walk-open}
-use Rattle.search.proofs.States.{State, state, counted, marked, halted, view, keeps, live-view, view-live, view-exhausted, Call, size, prefix, centerAt, whole, leafOf, down, Asks, Promises, whole-live, unchanged}
+use Rattle.search.proofs.States.{State, state, marked, halted, view, keeps, live-view, view-live, view-exhausted, Call, size, prefix, centerAt, whole, leafOf, down, Asks, Promises, whole-live, unchanged}
 
 -- what a level's children come to from the next on, with fuel for so many
 abbrev left : Call → ℕ → ℕ → Next → Walked Kept → Walked Kept
@@ -48,6 +47,12 @@ pub record Going (q : Call) (l : ℕ) (x : State) (g : Children) : Type 0 where
   pub weighed : g .weight ≡ weight (q .table) l
   pub promised : Promises q x
 
+-- with a child in hand: g is the generator after it
+pub record Holding (q : Call) (l : ℕ) (x : State) (trial : Trial) (g : Children) : Type 0 where
+  pub generator : Children
+  pub going : Going q l x generator
+  pub gives : At trial g ≡ childOf (next (zigzag generator))
+
 -- ---- a level
 pub record Level (q : Call) : Type 0 where
   pub ready : Asks q
@@ -62,10 +67,10 @@ module _ {q : Call} (v : Level q) where
   deeper = omega (arith, v .deep)
 
   -- its centre as the code sums it
-  abbrev summed : Float
+  abbrev pub summed : Float
   summed = alongFrom (size q) (q .table .mu) (v .level) (v .level + 1) (places (size q) (v .level + 1) (q .from .rest)) (coordinate (q .target) (v .level))
 
-  abbrev begins : Float → Start
+  abbrev pub begins : Float → Start
   begins c = start c (sub binary64 (q .from .search .radius) (q .partial)) (weight (q .table) (v .level))
 
   begins-at : begins (centerAt q (v .level)) ≡ begins summed
@@ -78,26 +83,38 @@ module _ {q : Call} (v : Level q) where
       ∙ ap (λ (k : ℕ). down q k (prefix q) (q .partial) (live-view (size q) (q .from))) deeper
       ∙ whole-live q (v .ready)
 
-  pub opens : (g : Children) → Open g ≡ levelOf (begins summed) → length (q .from .search .point) ≡ 23 → Going q (v .level) (q .from) g
-  opens g e sized =
-      let begun : begins (centerAt q (v .level)) ≡ open-level (zigzag g) = begins-at ∙ open-of _ g e in
-      let first = start-opens (centerAt q (v .level)) (sub binary64 (q .from .search .radius) (q .partial)) (weight (q .table) (v .level)) (zigzag g) begun in
-      let one : g .step ≡ 1 = ap (λ (h : Zigzag). h .step) first in
-      record {
-        fuel = suc (q .budget);
-        enough = omega arith;
-        same =
-            sym (walk-open (leafOf q) (center (q .table) (q .target)) (q .table) (q .budget) (v .level) (prefix q) (q .partial) (keeps (size q) (q .from)) (q .from .search .radius) (q .from .search .nodes) (zigzag g) begun)
-            ∙ ap (λ (k : ℕ). down q k (prefix q) (q .partial) (live-view (size q) (q .from))) deeper
-            ∙ whole-live q (v .ready);
-        live = v .ready .live;
-        sized = sized;
-        few = omega arith;
-        listed = omega arith;
-        centered = ap (λ (h : Zigzag). h .center) first;
-        weighed = ap (λ (h : Zigzag). h .weight) first;
-        promised = unchanged q (v .ready);
-      }
+  module _ (g : Children) (e : Open g ≡ levelOf (begins summed)) where
+    begun : begins (centerAt q (v .level)) ≡ open-level (zigzag g)
+    begun = begins-at ∙ open-of _ g e
+
+    abbrev remaining : Float
+    remaining = sub binary64 (q .from .search .radius) (q .partial)
+
+    made : zigzag g ≡ startAt (centerAt q (v .level)) remaining (weight (q .table) (v .level)) (roundAway (centerAt q (v .level)))
+    made = start-opens (centerAt q (v .level)) remaining (weight (q .table) (v .level)) (zigzag g) begun
+
+    -- it has given no child
+    pub none-given : g .«emitted_nearest» ≡ false
+    none-given = ap (λ (h : Zigzag). h .emittedNearest) made
+
+    pub opens : length (q .from .search .point) ≡ 23 → Going q (v .level) (q .from) g
+    opens sized =
+        let one : g .step ≡ 1 = ap (λ (h : Zigzag). h .step) made in
+        record {
+          fuel = suc (q .budget);
+          enough = omega arith;
+          same =
+              sym (walk-open (leafOf q) (center (q .table) (q .target)) (q .table) (q .budget) (v .level) (prefix q) (q .partial) (keeps (size q) (q .from)) (q .from .search .radius) (q .from .search .nodes) (zigzag g) begun)
+              ∙ ap (λ (k : ℕ). down q k (prefix q) (q .partial) (live-view (size q) (q .from))) deeper
+              ∙ whole-live q (v .ready);
+          live = v .ready .live;
+          sized = sized;
+          few = omega arith;
+          listed = omega arith;
+          centered = ap (λ (h : Zigzag). h .center) made;
+          weighed = ap (λ (h : Zigzag). h .weight) made;
+          promised = unchanged q (v .ready);
+        }
 
 -- ---- a turn of the loop
 pub record Turn (q : Call) : Type 0 where
@@ -114,21 +131,17 @@ module _ {q : Call} (u : Turn q) where
       ∙ ap (λ (y : Next). left q (u .at .level) (u .going .fuel) y (live-view (size q) (u .now))) (sym (end-of _ e))
       ∙ u .going .same
 
-  -- a search that differs in what no promise speaks of, and has as many nodes or some more
-  promised-after : (s : RecursiveSearch) → s .point ≡ u .now .search .point → u .now .search .nodes ≤ s .nodes → s .nodes ≤ q .budget → s .listed ≡ u .now .search .listed → Promises q (state s (u .now .rest) (u .now .distances) (u .now .points))
-  promised-after s e f h i = record {
-    above = ap (places (size q) (q .depth)) e ∙ u .going .promised .above;
-    more = omega (arith, u .going .promised .more);
-    counted = h;
-    listed = omega (arith, u .going .promised .listed);
+  pub promised-halted : Promises q (state (halted (u .now .search)) (u .now .rest) (u .now .distances) (u .now .points))
+  promised-halted = record {
+    above = u .going .promised .above;
+    more = u .going .promised .more;
+    counted = u .going .promised .counted;
+    listed = u .going .promised .listed;
     sized = u .going .promised .sized;
     residuals = u .going .promised .residuals;
     distances-length = u .going .promised .distances-length;
     points-length = u .going .promised .points-length;
   }
-
-  pub promised-halted : Promises q (state (halted (u .now .search)) (u .now .rest) (u .now .distances) (u .now .points))
-  promised-halted = promised-after (halted (u .now .search)) refl (omega arith) (u .going .promised .counted) refl
 
 -- ---- a turn that has a child
 pub record Tried (q : Call) : Type 0 where
@@ -175,7 +188,7 @@ module _ {q : Call} (d : Tried q) where
   weight-after : d .after .weight ≡ weight (q .table) l
   weight-after = follows .weight ∙ d .turn .going .weighed
 
-  few-after : d .after .step ≤ 2 * x .search .nodes + 3
+  pub few-after : d .after .step ≤ 2 * x .search .nodes + 3
   few-after = omega (arith, follows .step, d .turn .going .few)
 
   -- the trial's term and double
@@ -198,36 +211,20 @@ module _ {q : Call} (d : Tried q) where
   sum-at : {a : Bool} → le (sum d) (x .search .radius) ≡ a → le (add binary64 (q .partial) (term (weight (q .table) l) c z)) (x .search .radius) ≡ a
   sum-at e = ap (λ (v : Float). le (add binary64 (q .partial) v) (x .search .radius)) (sym term-at) ∙ e
 
-  -- the child is passed by
-  pub prunes : x .search .nodes < q .budget → le (sum d) (x .search .radius) ≡ false → Going q l (state (counted (x .search)) (x .rest) (x .distances) (x .points)) (d .after)
-  prunes k e = record {
-    fuel = fuel - 1;
-    enough = omega (arith, d .turn .going .enough, k);
-    same = sym (passed (leafOf q) (center (q .table) (q .target)) (q .table) (q .budget) (down q l) l (prefix q) (q .partial) c z (zigzag (d .after)) (keeps (size q) x) (x .search .radius) (x .search .nodes) k fuel some (sum-at e)) ∙ here;
-    live = d .turn .going .live;
-    sized = d .turn .going .sized;
-    few = omega (arith, few-after);
-    listed = omega (arith, d .turn .going .listed);
-    centered = center-after;
-    weighed = weight-after;
-    promised = promised-after (d .turn) (counted (x .search)) refl (omega arith) (omega (arith, k)) refl;
-  }
-
--- ---- a turn that goes down
+-- ---- a turn whose child is counted and set in the point under trial
 -- `stored` is the child's coordinate as the code has it
-pub record Descends (q : Call) : Type 0 where
+pub record Counted (q : Call) : Type 0 where
   pub tried : Tried q
   pub free : tried .turn .now .search .nodes < q .budget
-  pub passes : le (sum tried) (tried .turn .now .search .radius) ≡ true
   pub stored : ℤ
   pub stored-is : stored ≡ tried .trial .z
 
-module _ {q : Call} (e : Descends q) where
+module _ {q : Call} (e : Counted q) where
   abbrev turn : Turn q
   turn = e .tried .turn
 
-  -- the search and the residual that go down
-  abbrev pub lower : RecursiveSearch
+  -- the search and the residuals then
+  abbrev pub lower : Search
   lower = marked (turn .now .search) (turn .at .level) (e .stored)
 
   abbrev pub residual : Float
@@ -257,6 +254,32 @@ module _ {q : Call} (e : Descends q) where
   rest-kept : places (size q) (q .depth) lower-rest ≡ places (size q) (q .depth) (q .from .rest)
   rest-kept = at-depth lower-rest (turn .now .rest) (places-kept (size q) (turn .now .rest) rest-long (turn .at .level) residual (low (turn .at))) ∙ turn .going .promised .residuals
 
+  -- it is passed by
+  pub prunes : le (sum (e .tried)) (turn .now .search .radius) ≡ false → Going q (turn .at .level) (state lower lower-rest (turn .now .distances) (turn .now .points)) (e .tried .after)
+  prunes h = record {
+    fuel = turn .going .fuel - 1;
+    enough = omega (arith, turn .going .enough, e .free);
+    same =
+        sym (passed (leafOf q) (center (q .table) (q .target)) (q .table) (q .budget) (down q (turn .at .level)) (turn .at .level) (prefix q) (q .partial) (centerAt q (turn .at .level)) (e .tried .trial .z) (zigzag (e .tried .after)) (keeps (size q) (turn .now)) (turn .now .search .radius) (turn .now .search .nodes) (e .free) (turn .going .fuel) (some (e .tried)) (sum-at (e .tried) h))
+        ∙ here (e .tried);
+    live = turn .going .live;
+    sized = length-set (turn .now .search .point) (turn .at .level) (e .stored) ∙ turn .going .sized;
+    few = omega (arith, few-after (e .tried));
+    listed = omega (arith, turn .going .listed);
+    centered = center-after (e .tried);
+    weighed = weight-after (e .tried);
+    promised = record {
+      above = point-kept;
+      more = omega (arith, turn .going .promised .more);
+      counted = omega (arith, e .free);
+      listed = omega (arith, turn .going .promised .listed);
+      sized = length-set (turn .now .rest) (turn .at .level) residual ∙ turn .going .promised .sized;
+      residuals = rest-kept;
+      distances-length = turn .going .promised .distances-length;
+      points-length = turn .going .promised .points-length;
+    };
+  }
+
   -- what the call below asks for
   pub descends : Ready (q .table .weights) (q .table .mu) (q .target) lower-rest (turn .now .distances) (turn .now .points) (q .budget) (turn .at .level) lower
   descends = record {
@@ -276,56 +299,76 @@ module _ {q : Call} (e : Descends q) where
     shaped = turn .going .promised .points-length ∙ turn .at .ready .shaped ∙ ap (λ (k : ℕ). k * size q) (sym (turn .going .promised .distances-length));
   }
 
-  -- w is what that call came to
-  module _ (w : State)
-      (gave : view (size q) w ≡ walkFrom (q .listing) (q .table) (q .target) (q .budget) (turn .at .level) (sum (e .tried)) lower (turn .now .distances) (turn .now .points))
-      (r : Returned (size q) (q .budget) (turn .at .level) lower (w .search) lower-rest (w .rest) (turn .now .distances) (w .distances) (turn .now .points) (w .points)) where
-    abbrev lower-view : Walked Kept
-    lower-view = seen (size q) lower (turn .now .distances) (turn .now .points)
+-- ---- a child that is followed, and what the walk below it came to
+pub record Below (q : Call) : Type 0 where
+  pub child : Counted q
+  pub passes : le (sum (child .tried)) (child .tried .turn .now .search .radius) ≡ true
+  pub came : State
+  pub gave : view (size q) came ≡ walkFrom (q .listing) (q .table) (q .target) (q .budget) (child .tried .turn .at .level) (sum (child .tried)) (lower child) (child .tried .turn .now .distances) (child .tried .turn .now .points)
+  pub left : Returned (size q) (q .budget) (child .tried .turn .at .level) (lower child) (came .search) (lower-rest child) (came .rest) (child .tried .turn .now .distances) (came .distances) (child .tried .turn .now .points) (came .points)
+  pub sized : length (came .search .point) ≡ 23
 
-    below : view (size q) w ≡ down q (turn .at .level) (e .tried .trial .z ∷ prefix q) (add binary64 (q .partial) (term (weight (q .table) (turn .at .level)) (centerAt q (turn .at .level)) (e .tried .trial .z))) (ended (keeps (size q) (turn .now)) (turn .now .search .radius) (turn .now .search .nodes + 1))
-    below =
-        gave
-        ∙ ap (λ (k : ℕ). walk (leaf (q .listing) k) (center (q .table) (q .target)) (q .table) (q .budget) (turn .at .level) (places (size q) (turn .at .level) (lower .point)) (sum (e .tried)) lower-view) (turn .going .promised .distances-length)
-        ∙ ap (λ (zs : List ℤ). down q (turn .at .level) zs (sum (e .tried)) lower-view) (point-set ∙ ap (λ (a : ℤ). a ∷ prefix q) (e .stored-is))
-        ∙ ap (λ (v : Float). down q (turn .at .level) (e .tried .trial .z ∷ prefix q) (add binary64 (q .partial) v) lower-view) (term-at (e .tried))
-        ∙ ap (down q (turn .at .level) (e .tried .trial .z ∷ prefix q) (add binary64 (q .partial) (term (weight (q .table) (turn .at .level)) (centerAt q (turn .at .level)) (e .tried .trial .z)))) (view-live (size q) (state lower (turn .now .rest) (turn .now .distances) (turn .now .points)) (turn .going .live))
+module _ {q : Call} (m : Below q) where
+  abbrev e : Counted q
+  e = m .child
 
-    onward : rest (e .tried) (turn .going .fuel - 1) (view (size q) w) ≡ whole q
-    onward =
-        ap (rest (e .tried) (turn .going .fuel - 1)) below
-        ∙ sym (entered (leafOf q) (center (q .table) (q .target)) (q .table) (q .budget) (down q (turn .at .level)) (turn .at .level) (prefix q) (q .partial) (centerAt q (turn .at .level)) (e .tried .trial .z) (zigzag (e .tried .after)) (keeps (size q) (turn .now)) (turn .now .search .radius) (turn .now .search .nodes) (e .free) (turn .going .fuel) (some (e .tried)) (sum-at (e .tried) (e .passes)))
-        ∙ here (e .tried)
+  abbrev w : State
+  w = m .came
 
-    pub halts : w .search .exhausted ≡ true → view (size q) w ≡ whole q
-    halts a =
-        view-exhausted (size q) w a
-        ∙ sym (children-exhausted (leafOf q) (center (q .table) (q .target)) (q .table) (q .budget) (down q (turn .at .level)) (turn .at .level) (prefix q) (q .partial) (centerAt q (turn .at .level)) (turn .going .fuel - 1) (next (zigzag (e .tried .after))) (w .search .nodes) (w .search .radius))
-        ∙ ap (rest (e .tried) (turn .going .fuel - 1)) (sym (view-exhausted (size q) w a))
-        ∙ onward
+  abbrev lower-view : Walked Kept
+  lower-view = seen (size q) (lower e) (turn e .now .distances) (turn e .now .points)
 
-    pub promised-up : Promises q w
-    promised-up = record {
-      above = at-depth (w .search .point) (lower .point) (places-next (size q) (turn .at .level) (w .search .point) (lower .point) (r .above)) ∙ point-kept;
-      more = omega (arith, turn .going .promised .more, r .more);
-      counted = r .counted;
-      listed = omega (arith, turn .going .listed, r .listed, r .more);
-      sized = r .sized;
-      residuals = at-depth (w .rest) lower-rest (places-next (size q) (turn .at .level) (w .rest) lower-rest (r .residuals)) ∙ rest-kept;
-      distances-length = r .distances-length ∙ turn .going .promised .distances-length;
-      points-length = r .points-length ∙ turn .going .promised .points-length;
-    }
+  below : view (size q) w ≡ down q (turn e .at .level) (e .tried .trial .z ∷ prefix q) (add binary64 (q .partial) (term (weight (q .table) (turn e .at .level)) (centerAt q (turn e .at .level)) (e .tried .trial .z))) (ended (keeps (size q) (turn e .now)) (turn e .now .search .radius) (turn e .now .search .nodes + 1))
+  below =
+      m .gave
+      ∙ ap (λ (k : ℕ). walk (leaf (q .listing) k) (center (q .table) (q .target)) (q .table) (q .budget) (turn e .at .level) (places (size q) (turn e .at .level) (lower e .point)) (sum (e .tried)) lower-view) (turn e .going .promised .distances-length)
+      ∙ ap (λ (zs : List ℤ). down q (turn e .at .level) zs (sum (e .tried)) lower-view) (point-set e ∙ ap (λ (a : ℤ). a ∷ prefix q) (e .stored-is))
+      ∙ ap (λ (v : Float). down q (turn e .at .level) (e .tried .trial .z ∷ prefix q) (add binary64 (q .partial) v) lower-view) (term-at (e .tried))
+      ∙ ap (down q (turn e .at .level) (e .tried .trial .z ∷ prefix q) (add binary64 (q .partial) (term (weight (q .table) (turn e .at .level)) (centerAt q (turn e .at .level)) (e .tried .trial .z)))) (view-live (size q) (state (lower e) (turn e .now .rest) (turn e .now .distances) (turn e .now .points)) (turn e .going .live))
 
-    pub goes-on : w .search .exhausted ≡ false → length (w .search .point) ≡ 23 → Going q (turn .at .level) w (e .tried .after)
-    goes-on a sized = record {
-      fuel = turn .going .fuel - 1;
-      enough = omega (arith, turn .going .enough, e .free, r .more);
-      same = ap (rest (e .tried) (turn .going .fuel - 1)) (sym (view-live (size q) w a)) ∙ onward;
-      live = a;
-      sized = sized;
-      few = omega (arith, few-after (e .tried), r .more);
-      listed = omega (arith, turn .going .listed, r .listed);
-      centered = center-after (e .tried);
-      weighed = weight-after (e .tried);
-      promised = promised-up;
-    }
+  onward : rest (e .tried) (turn e .going .fuel - 1) (view (size q) w) ≡ whole q
+  onward =
+      ap (rest (e .tried) (turn e .going .fuel - 1)) below
+      ∙ sym (entered (leafOf q) (center (q .table) (q .target)) (q .table) (q .budget) (down q (turn e .at .level)) (turn e .at .level) (prefix q) (q .partial) (centerAt q (turn e .at .level)) (e .tried .trial .z) (zigzag (e .tried .after)) (keeps (size q) (turn e .now)) (turn e .now .search .radius) (turn e .now .search .nodes) (e .free) (turn e .going .fuel) (some (e .tried)) (sum-at (e .tried) (m .passes)))
+      ∙ here (e .tried)
+
+  pub halts : w .search .exhausted ≡ true → view (size q) w ≡ whole q
+  halts a =
+      view-exhausted (size q) w a
+      ∙ sym (children-exhausted (leafOf q) (center (q .table) (q .target)) (q .table) (q .budget) (down q (turn e .at .level)) (turn e .at .level) (prefix q) (q .partial) (centerAt q (turn e .at .level)) (turn e .going .fuel - 1) (next (zigzag (e .tried .after))) (w .search .nodes) (w .search .radius))
+      ∙ ap (rest (e .tried) (turn e .going .fuel - 1)) (sym (view-exhausted (size q) w a))
+      ∙ onward
+
+  pub promised-up : Promises q w
+  promised-up = record {
+    above = at-depth e (w .search .point) (lower e .point) (places-next (size q) (turn e .at .level) (w .search .point) (lower e .point) (m .left .above)) ∙ point-kept e;
+    more = omega (arith, turn e .going .promised .more, m .left .more);
+    counted = m .left .counted;
+    listed = omega (arith, turn e .going .listed, m .left .listed, m .left .more);
+    sized = m .left .sized;
+    residuals = at-depth e (w .rest) (lower-rest e) (places-next (size q) (turn e .at .level) (w .rest) (lower-rest e) (m .left .residuals)) ∙ rest-kept e;
+    distances-length = m .left .distances-length ∙ turn e .going .promised .distances-length;
+    points-length = m .left .points-length ∙ turn e .going .promised .points-length;
+  }
+
+  pub goes-on : w .search .exhausted ≡ false → Going q (turn e .at .level) w (e .tried .after)
+  goes-on a = record {
+    fuel = turn e .going .fuel - 1;
+    enough = omega (arith, turn e .going .enough, e .free, m .left .more);
+    same = ap (rest (e .tried) (turn e .going .fuel - 1)) (sym (view-live (size q) w a)) ∙ onward;
+    live = a;
+    sized = m .sized;
+    few = omega (arith, few-after (e .tried), m .left .more);
+    listed = omega (arith, turn e .going .listed, m .left .listed);
+    centered = center-after (e .tried);
+    weighed = weight-after (e .tried);
+    promised = promised-up;
+  }
+
+  -- there is no child after it
+  pub lasts : End ≡ childOf (next (zigzag (e .tried .after))) → view (size q) w ≡ whole q
+  lasts f = by (w .search .exhausted) refl
+    where
+      by : (b : Bool) → w .search .exhausted ≡ b → view (size q) w ≡ whole q
+      by true a = halts a
+      by false a = ends (record { at = turn e .at; now = w; generator = e .tried .after; going = goes-on a }) f

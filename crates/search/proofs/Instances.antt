@@ -21,7 +21,7 @@ use Rattle.distance.proofs.Places.{places-none}
 use Rattle.distance.proofs.Totals.{residuals-start}
 use Rattle.search.specs.Kept.{Kept, leaf}
 use Rattle.sorting.specs.Rows.{rows}
-use Rattle.search.specs.View.{fresh, walkFrom, Ready}
+use Rattle.search.specs.View.{Search, carried, fresh, walkFrom, Ready}
 use Rattle.search.proofs.Leaves.{considers-is}
 use Rattle.search.proofs.Rows.{stores-is, rows-zero}
 use Rattle.search.proofs.Map.{mapped, walk-map}
@@ -93,10 +93,22 @@ list-instance t target R b room =
     ∙ ap (mapped (listOnly room)) (sym (list-is t target R b))
 
 -- ---- a call's walk, from the search that `begun` gives
+abbrev pub begin : Bool → Float → Search
+begin listing R = carried listing (fresh R) 0 false
+
+-- which is the same for both
+abbrev bare : Float → Search
+bare R = record { point = fresh R .point; best = fresh R .best; radius = R; nodes = 0; found = false; exhausted = false; listed = 0 }
+
+begin-is : (listing : Bool) (R : Float) → begin listing R ≡ bare R
+begin-is true R = refl
+begin-is false R = refl
+
 module _ (t : Table) (target : List Float) (b : ℕ) (R : Float) (distances : List Float) (points : List ℤ) (small : dimension t ≤ 23) where
-  starts : (listing : Bool) → walkFrom listing t target b (dimension t) (ofBits binary64 0) (fresh R) distances points ≡ walk (leaf listing (length distances)) (center t target) t b (dimension t) [] plusZero (ended nothing R 0)
+  starts : (listing : Bool) → walkFrom listing t target b (dimension t) (ofBits binary64 0) (begin listing R) distances points ≡ walk (leaf listing (length distances)) (center t target) t b (dimension t) [] plusZero (ended nothing R 0)
   starts listing =
-      ap (λ (x : Float). walkFrom listing t target b (dimension t) x (fresh R) distances points) zero-is
+      ap (λ (s : Search). walkFrom listing t target b (dimension t) (ofBits binary64 0) s distances points) (begin-is listing R)
+      ∙ ap (λ (x : Float). walkFrom listing t target b (dimension t) x (bare R) distances points) zero-is
       ∙ ap (λ (zs : List ℤ). whole zs (rows (dimension t) (min 0 (length distances)) distances points)) (places-none (dimension t) (fresh R .point) (omega arith) (dimension t) (omega arith))
       ∙ ap (λ (k : ℕ). whole [] (rows (dimension t) k distances points)) (zero-min (length distances))
       ∙ ap (whole []) (rows-zero (dimension t) distances points)
@@ -104,15 +116,15 @@ module _ (t : Table) (target : List Float) (b : ℕ) (R : Float) (distances : Li
       whole : List ℤ → List ListPoint → Walked Kept
       whole zs l = walk (leaf listing (length distances)) (center t target) t b (dimension t) zs plusZero (ended (record { best = no-best; count = 0; stored = l }) R 0)
 
-  pub nearest-from-start : walkFrom false t target b (dimension t) (ofBits binary64 0) (fresh R) distances points ≡ mapped bestOnly (nearestWalk t target R b)
+  pub nearest-from-start : walkFrom false t target b (dimension t) (ofBits binary64 0) (begin false R) distances points ≡ mapped bestOnly (nearestWalk t target R b)
   nearest-from-start = starts false ∙ nearest-instance t target R b (length distances)
 
-  pub list-from-start : walkFrom true t target b (dimension t) (ofBits binary64 0) (fresh R) distances points ≡ mapped (listOnly (length distances)) (listWalk t target R b)
+  pub list-from-start : walkFrom true t target b (dimension t) (ofBits binary64 0) (begin true R) distances points ≡ mapped (listOnly (length distances)) (listWalk t target R b)
   list-from-start = starts true ∙ list-instance t target R b (length distances)
 
 -- what a call has to show for it
-pub ready-at-start : (weights mu target rest distances : List Float) (points : List ℤ) (b : ℕ) (R : Float) → length weights ≤ 23 → length mu ≡ length weights * length weights → length target ≡ length weights → b ≤ 2 ^ 60 → length rest ≡ 23 → length distances ≤ 4096 → length points ≡ length distances * length weights → Ready weights mu target rest distances points b (length weights) (fresh R)
-ready-at-start weights mu target rest distances points b R small square aimed bounded sized few shaped = record {
+pub ready-at-start : (listing : Bool) (weights mu target rest distances : List Float) (points : List ℤ) (b : ℕ) (R : Float) → length weights ≤ 23 → length mu ≡ length weights * length weights → length target ≡ length weights → b ≤ 2 ^ 60 → length rest ≡ 23 → length distances ≤ 4096 → length points ≡ length distances * length weights → Ready weights mu target rest distances points b (length weights) (begin listing R)
+ready-at-start listing weights mu target rest distances points b R small square aimed bounded sized few shaped = record {
   small = small;
   square = square;
   aimed = aimed;
@@ -120,7 +132,7 @@ ready-at-start weights mu target rest distances points b R small square aimed bo
   bounded = bounded;
   counted = omega arith;
   live = refl;
-  listed = omega arith;
+  listed = omega (arith, ap (λ (s : Search). s .listed) (begin-is listing R));
   sized = sized;
   beside = residuals-start (table weights mu) target (fresh R .point) (omega arith) rest (omega arith);
   few = few;

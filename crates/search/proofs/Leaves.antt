@@ -2,28 +2,30 @@
 use mathlib.Core.Path.{_≡_, refl, ap, sym, _∙_}
 use mathlib.Core.Bool.{Bool, true, false, cond, _&&_, _||_}
 use mathlib.Core.List.{List}
-use Prim.Native.Nat.{ℕ}
+use Prim.Native.Nat.{ℕ, _<_}
+use native.Mathlib.Omega.{arith}
+use borrow.Author.Tests.{lt-ltb, le-ltb}
 use lib.IntN.{ℤ}
 use lib.ListN.{length, take}
 use lib.Ieee.{Float, lt, eq}
 use Rattle.definitions.specs.Walk.{Walked, ended, exhausted}
-use Rattle.definitions.specs.Nearest.{best, no-best, lexicographic, replaces}
+use Rattle.definitions.specs.Nearest.{Best, best, no-best, lexicographic, replaces}
 use Rattle.search.specs.Kept.{Kept, leaf}
 use Rattle.search.specs.declared.RecursiveSearch.{RecursiveSearch}
-use Rattle.search.specs.View.{bestOf, kept, seen, withBest}
+use Rattle.search.specs.View.{Search, carried, bestOf, kept, seen, withBest, Considered}
 
 -- a search that is not exhausted, and what it keeps
-abbrev pub held : RecursiveSearch → Kept → Walked Kept
+abbrev pub held : Search → Kept → Walked Kept
 held s k = ended k (s .radius) (s .nodes)
 
 -- what `seen` says, with what it keeps given
-abbrev pub shown : RecursiveSearch → Kept → Walked Kept
+abbrev pub shown : Search → Kept → Walked Kept
 shown s k = cond (s .exhausted) (exhausted (s .nodes) (s .radius)) (held s k)
 
-pub shown-held : (s : RecursiveSearch) (k : Kept) → s .exhausted ≡ false → shown s k ≡ held s k
+pub shown-held : (s : Search) (k : Kept) → s .exhausted ≡ false → shown s k ≡ held s k
 shown-held s k e = ap (λ (b : Bool). cond b (exhausted (s .nodes) (s .radius)) (held s k)) e
 
-pub shown-exhausted : (s : RecursiveSearch) (k : Kept) → s .exhausted ≡ true → shown s k ≡ exhausted (s .nodes) (s .radius)
+pub shown-exhausted : (s : Search) (k : Kept) → s .exhausted ≡ true → shown s k ≡ exhausted (s .nodes) (s .radius)
 shown-exhausted s k e = ap (λ (b : Bool). cond b (exhausted (s .nodes) (s .radius)) (held s k)) e
 
 -- ---- the definitions, a clause each
@@ -43,44 +45,44 @@ unfolding replaces
 replaces-best zs bs d R = refl
 
 -- ---- a leaf of the code
-module _ (n : ℕ) (s : RecursiveSearch) (d : Float) where
+module _ (n : ℕ) (s : RecursiveSearch) (d : Float) (found : ℕ) where
+  abbrev bestBy : Bool → Best
+  bestBy b = cond b (best (take n (s .best))) no-best
+
   abbrev pub better : Bool
-  better = replaces (take n (s .point)) d (bestOf n s) (s .radius)
+  better = replaces (take n (s .point)) d (bestOf n (carried false s found false)) (s .radius)
 
-  -- what `consider` promises of its result
-  abbrev pub Considers : RecursiveSearch → Type 0
-  Considers r =
-      ((distances : List Float) (points : List ℤ) → seen n r distances points ≡ leaf false (length distances) (take n (s .point)) d (kept n s distances points) (s .radius) (s .nodes))
-      × (r .point ≡ s .point)
-      × (r .nodes ≡ s .nodes)
-      × (r .listed ≡ s .listed)
+  abbrev old : List Float → List ℤ → Kept
+  old distances points = kept n (carried false s found false) distances points
 
-  module _ (live : s .exhausted ≡ false) where
-    leaf-by : (b : Bool) → better ≡ b → (distances : List Float) (points : List ℤ) → leaf false (length distances) (take n (s .point)) d (kept n s distances points) (s .radius) (s .nodes) ≡ cond b (ended (withPoint (take n (s .point)) (kept n s distances points)) d (s .nodes)) (held s (kept n s distances points))
-    leaf-by b e distances points =
-        considers-is (length distances) (take n (s .point)) d (kept n s distances points) (s .radius) (s .nodes)
-        ∙ ap (λ (x : Bool). cond x (ended (withPoint (take n (s .point)) (kept n s distances points)) d (s .nodes)) (held s (kept n s distances points))) e
+  leaf-by : (b : Bool) → better ≡ b → (distances : List Float) (points : List ℤ) → leaf false (length distances) (take n (s .point)) d (old distances points) (s .radius) (s .nodes) ≡ cond b (ended (withPoint (take n (s .point)) (old distances points)) d (s .nodes)) (ended (old distances points) (s .radius) (s .nodes))
+  leaf-by b e distances points =
+      considers-is (length distances) (take n (s .point)) d (old distances points) (s .radius) (s .nodes)
+      ∙ ap (λ (x : Bool). cond x (ended (withPoint (take n (s .point)) (old distances points)) d (s .nodes)) (ended (old distances points) (s .radius) (s .nodes))) e
 
-    pub replaced : (r : RecursiveSearch) → r ≡ withBest s d → better ≡ true → Considers r
-    replaced r e h = (
-      λ distances points. ap (λ (x : RecursiveSearch). seen n x distances points) e ∙ shown-held (withBest s d) (kept n (withBest s d) distances points) live ∙ sym (leaf-by true h distances points),
-      ap (λ (x : RecursiveSearch). x .point) e,
-      ap (λ (x : RecursiveSearch). x .nodes) e,
-      ap (λ (x : RecursiveSearch). x .listed) e,
-    )
+  -- with a best, what is kept
+  with-point : (found′ : ℕ) → 0 < found′ → (distances : List Float) (points : List ℤ) → seen n (carried false (withBest s d) found′ false) distances points ≡ ended (withPoint (take n (s .point)) (old distances points)) d (s .nodes)
+  with-point found′ h distances points = ap (λ (b : Bool). ended (record { best = cond b (best (take n (s .point))) no-best; count = 0; stored = old distances points .stored }) d (s .nodes)) (lt-ltb 0 found′ h)
 
-    pub stayed : better ≡ false → Considers s
-    stayed h = (λ distances points. shown-held s (kept n s distances points) live ∙ sym (leaf-by false h distances points), refl, refl, refl)
+  pub replaced : (r : RecursiveSearch) → r ≡ withBest s d → (found′ : ℕ) → 0 < found′ → better ≡ true → Considered n s d found r found′
+  replaced r e found′ l h = record {
+    seen-as = λ distances points. ap (λ (x : RecursiveSearch). seen n (carried false x found′ false) distances points) e ∙ with-point found′ l distances points ∙ sym (leaf-by true h distances points);
+    point = ap (λ (x : RecursiveSearch). x .point) e;
+    nodes = ap (λ (x : RecursiveSearch). x .nodes) e;
+  }
 
-  pub first : s .found ≡ false → better ≡ true
-  first e = ap (λ (b : Bool). replaces (take n (s .point)) d (cond b (best (take n (s .best))) no-best) (s .radius)) e ∙ replaces-none (take n (s .point)) d (s .radius)
+  pub stayed : better ≡ false → Considered n s d found s found
+  stayed h = record { seen-as = λ distances points. sym (leaf-by false h distances points); point = refl; nodes = refl }
 
-  module _ (e : s .found ≡ true) where
+  pub first : found ≡ 0 → better ≡ true
+  first e = ap (λ (b : Bool). replaces (take n (s .point)) d (bestBy b) (s .radius)) (le-ltb 0 found (omega arith)) ∙ replaces-none (take n (s .point)) d (s .radius)
+
+  module _ (e : 0 < found) where
     abbrev smaller : Bool
     smaller = lexicographic (take n (s .point)) (take n (s .best))
 
     with-best : better ≡ (lt d (s .radius) || (eq d (s .radius) && smaller))
-    with-best = ap (λ (b : Bool). replaces (take n (s .point)) d (cond b (best (take n (s .best))) no-best) (s .radius)) e ∙ replaces-best (take n (s .point)) (take n (s .best)) d (s .radius)
+    with-best = ap (λ (b : Bool). replaces (take n (s .point)) d (bestBy b) (s .radius)) (lt-ltb 0 found e) ∙ replaces-best (take n (s .point)) (take n (s .best)) d (s .radius)
 
     pub nearer : lt d (s .radius) ≡ true → better ≡ true
     nearer h = with-best ∙ ap (λ (b : Bool). b || (eq d (s .radius) && smaller)) h

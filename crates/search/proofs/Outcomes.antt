@@ -2,19 +2,17 @@
 use mathlib.Core.Path.{_≡_, ap, sym, _∙_}
 use mathlib.Core.Bool.{Bool, true, false, cond}
 use mathlib.Core.List.{List, reverse}
-use Prim.Native.Nat.{ℕ, _≤_, min}
+use Prim.Native.Nat.{ℕ, min}
 use native.Mathlib.Omega.{arith}
 use lib.IntN.{ℤ}
-use lib.ListN.{length, take, length-reverse}
-use lib.Seq.{take-all}
+use lib.ListN.{length, take}
 use lib.Ieee.{Float}
 use Rattle.definitions.specs.Walk.{Walked, ended, exhausted}
 use Rattle.definitions.specs.Nearest.{Best, best, no-best}
 use Rattle.definitions.specs.Listing.{ListPoint}
 use Rattle.search.specs.Kept.{Kept}
-use Rattle.search.specs.declared.RecursiveSearch.{RecursiveSearch}
 use Rattle.sorting.specs.Rows.{rows}
-use Rattle.search.specs.View.{kept, seen}
+use Rattle.search.specs.View.{Search, kept, seen}
 use Rattle.search.proofs.Leaves.{shown-held, shown-exhausted}
 use Rattle.search.proofs.Map.{mapped}
 use Rattle.search.proofs.Instances.{bestOnly, listOnly}
@@ -35,7 +33,7 @@ module _ {K : Type 0} (f : K → Kept) where
       ap (λ (x : ℕ). exhausted x S) (sym b) ∙ ap (λ (x : Float). exhausted m x) (sym a)
   exhausted-of (ended j S l) m R e = let z : _≡_ {A = ℕ} 0 1 = cc in absurd (omega (arith, z))
 
-  module _ (n : ℕ) (s : RecursiveSearch) (distances : List Float) (points : List ℤ) (w : Walked K) (e : seen n s distances points ≡ mapped f w) where
+  module _ (n : ℕ) (s : Search) (distances : List Float) (points : List ℤ) (w : Walked K) (e : seen n s distances points ≡ mapped f w) where
     -- refusal 15
     pub is-exhausted : s .exhausted ≡ true → w ≡ exhausted (s .nodes) (s .radius)
     is-exhausted x = exhausted-of w (s .nodes) (s .radius) (sym (shown-exhausted s (kept n s distances points) x) ∙ e)
@@ -44,7 +42,7 @@ module _ {K : Type 0} (f : K → Kept) where
     is-ended x = ended-of w (kept n s distances points) (s .radius) (s .nodes) (sym (shown-held s (kept n s distances points) x) ∙ e)
 
 -- ---- nearest
-module _ (n : ℕ) (s : RecursiveSearch) (distances : List Float) (points : List ℤ) (w : Walked Best) (e : seen n s distances points ≡ mapped bestOnly w) (live : s .exhausted ≡ false) where
+module _ (n : ℕ) (s : Search) (distances : List Float) (points : List ℤ) (w : Walked Best) (e : seen n s distances points ≡ mapped bestOnly w) (live : s .exhausted ≡ false) where
   best-is : (b : Bool) → s .found ≡ b → w ≡ ended (cond b (best (take n (s .best))) no-best) (s .radius) (s .nodes)
   best-is b x =
       let r = is-ended bestOnly n s distances points w e live in
@@ -58,13 +56,13 @@ module _ (n : ℕ) (s : RecursiveSearch) (distances : List Float) (points : List
 
 -- ---- list
 -- the points found, the last first, and where they are stored
-pub record Found (n : ℕ) (s : RecursiveSearch) (distances : List Float) (points : List ℤ) (w : Walked (List ListPoint)) : Type 0 where
+pub record Found (n : ℕ) (s : Search) (distances : List Float) (points : List ℤ) (w : Walked (List ListPoint)) : Type 0 where
   pub all : List ListPoint
   pub is : w ≡ ended all (s .radius) (s .nodes)
   pub count : length all ≡ s .listed
   pub stored : take (length distances) (reverse all) ≡ rows n (min (s .listed) (length distances)) distances points
 
-module _ (n : ℕ) (s : RecursiveSearch) (distances : List Float) (points : List ℤ) (w : Walked (List ListPoint)) where
+module _ (n : ℕ) (s : Search) (distances : List Float) (points : List ℤ) (w : Walked (List ListPoint)) where
   pub is-listed : seen n s distances points ≡ mapped (listOnly (length distances)) w → s .exhausted ≡ false → Found n s distances points w
   is-listed e live =
       let r = is-ended (listOnly (length distances)) n s distances points w e live in
@@ -74,11 +72,3 @@ module _ (n : ℕ) (s : RecursiveSearch) (distances : List Float) (points : List
         count = sym (ap (λ (k : Kept). k .count) (r .2));
         stored = sym (ap (λ (k : Kept). k .stored) (r .2));
       }
-
-  -- where there are places enough, the rows are the points in the order of their finding
-  pub all-stored : (l : Found n s distances points w) → s .listed ≤ length distances → rows n (s .listed) distances points ≡ reverse (l .all)
-  all-stored l h =
-      let a : s .listed ≡ min (s .listed) (length distances) = omega arith in
-      ap (λ (k : ℕ). rows n k distances points) a
-      ∙ sym (l .stored)
-      ∙ take-all (length distances) (reverse (l .all)) (omega (arith, length-reverse (l .all), l .count))

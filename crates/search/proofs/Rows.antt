@@ -9,16 +9,16 @@ use native.Mathlib.Omega.{arith}
 use lib.Dec.{ltb}
 use lib.IntN.{ℤ}
 use lib.ListN.{length, getD, set, take, drop, length-drop, length-set, take-append-drop}
-use lib.Seq.{paste, take-append-le, drop-append-le, take-at, drop-at, length-take-le, getD-set-same, getD-set-other}
+use lib.Seq.{paste, take-append-le, drop-append-le, take-at, drop-at, length-take-le, length-paste, getD-set-same, getD-set-other}
 use lib.Ieee.{Float, nan}
 use borrow.Author.Tests.{lt-ltb, le-ltb}
 use Rattle.definitions.specs.Walk.{Walked, ended}
+use Rattle.definitions.specs.Nearest.{no-best}
 use Rattle.definitions.specs.Listing.{ListPoint}
 use Rattle.search.specs.Kept.{Kept, leaf}
 use Rattle.search.specs.declared.RecursiveSearch.{RecursiveSearch}
 use Rattle.sorting.specs.Rows.{row, rows}
-use Rattle.search.specs.View.{kept, seen}
-use Rattle.search.proofs.Leaves.{shown-held}
+use Rattle.search.specs.View.{carried, kept, seen, Pushed}
 
 rows-suc : (n k : ℕ) (ds : List Float) (ps : List ℤ) → rows n (suc k) ds ps ≡ rows n k ds ps ++ row n ds ps k ∷ []
 unfolding rows
@@ -87,42 +87,52 @@ pub stores-is : (room : ℕ) (zs : List ℤ) (d : Float) (k : Kept) (R : Float) 
 unfolding leaf
 stores-is room zs d k R m = refl
 
--- a search with one point more counted
-abbrev pub counted : RecursiveSearch → RecursiveSearch
-counted s = record { point = s .point; best = s .best; radius = s .radius; nodes = s .nodes; found = s .found; exhausted = s .exhausted; listed = s .listed + 1 }
-
-module _ (n : ℕ) (s : RecursiveSearch) (d : Float) (ds : List Float) (ps : List ℤ) (live : s .exhausted ≡ false) where
+module _ (n : ℕ) (s : RecursiveSearch) (found : ℕ) (d : Float) (ds : List Float) (ps : List ℤ) where
   abbrev zs : List ℤ
   zs = take n (s .point)
 
   abbrev old : Kept
-  old = kept n s ds ps
+  old = kept n (carried true s found false) ds ps
 
   -- what is kept if so much is stored
   abbrev storing : List ListPoint → Walked Kept
-  storing l = ended (record { best = old .best; count = suc (s .listed); stored = l }) (s .radius) (s .nodes)
+  storing l = ended (record { best = no-best; count = suc found; stored = l }) (s .radius) (s .nodes)
 
-  leaf-by : (b : Bool) → ltb (s .listed) (length ds) ≡ b → leaf true (length ds) zs d old (s .radius) (s .nodes) ≡ storing (cond b (old .stored ++ record { distance = d; point = zs } ∷ []) (old .stored))
+  leaf-by : (b : Bool) → ltb found (length ds) ≡ b → leaf true (length ds) zs d old (s .radius) (s .nodes) ≡ storing (cond b (old .stored ++ record { distance = d; point = zs } ∷ []) (old .stored))
   leaf-by b e = stores-is (length ds) zs d old (s .radius) (s .nodes) ∙ ap (λ (x : Bool). storing (cond x (old .stored ++ record { distance = d; point = zs } ∷ []) (old .stored))) e
 
-  seen-by : (es : List Float) (qs : List ℤ) (j : ℕ) → min (s .listed + 1) (length es) ≡ j → seen n (counted s) es qs ≡ storing (rows n j es qs)
+  seen-by : (es : List Float) (qs : List ℤ) (j : ℕ) → min (found + 1) (length es) ≡ j → seen n (carried true s (found + 1) false) es qs ≡ storing (rows n j es qs)
   seen-by es qs j e =
-      shown-held (counted s) (kept n (counted s) es qs) live
-      ∙ ap (λ (k : ℕ). ended (record { best = old .best; count = k; stored = rows n (min (s .listed + 1) (length es)) es qs }) (s .radius) (s .nodes)) (add-one (s .listed))
+      ap (λ (k : ℕ). ended (record { best = no-best; count = k; stored = rows n (min (found + 1) (length es)) es qs }) (s .radius) (s .nodes)) (add-one found)
       ∙ ap (λ (k : ℕ). storing (rows n k es qs)) e
 
-  -- no place is left
-  pub full : length ds ≤ s .listed → seen n (counted s) ds ps ≡ leaf true (length ds) zs d old (s .radius) (s .nodes)
+  full : length ds ≤ found → seen n (carried true s (found + 1) false) ds ps ≡ leaf true (length ds) zs d old (s .radius) (s .nodes)
   full h =
-      let a : min (s .listed + 1) (length ds) ≡ min (s .listed) (length ds) = omega arith in
-      seen-by ds ps (min (s .listed) (length ds)) a ∙ sym (leaf-by false (le-ltb (s .listed) (length ds) h))
+      let a : min (found + 1) (length ds) ≡ min found (length ds) = omega arith in
+      seen-by ds ps (min found (length ds)) a ∙ sym (leaf-by false (le-ltb found (length ds) h))
+
+  stored : found < length ds → length ps ≡ length ds * n → n ≤ length (s .point) → seen n (carried true s (found + 1) false) (set ds found d) (paste ps (found * n) (s .point) n) ≡ leaf true (length ds) zs d old (s .radius) (s .nodes)
+  stored h shaped long =
+      let a : min (found + 1) (length (set ds found d)) ≡ suc found = omega (arith, length-set ds found d) in
+      let b : found ≡ min found (length ds) = omega arith in
+      seen-by (set ds found d) (paste ps (found * n) (s .point) n) (suc found) a
+      ∙ ap storing (stored-row n found ds ps (s .point) d h shaped long)
+      ∙ ap (λ (k : ℕ). storing (rows n k ds ps ++ record { distance = d; point = zs } ∷ [])) b
+      ∙ sym (leaf-by true (lt-ltb found (length ds) h))
+
+-- what `push` does to the places and to the number found
+module _ (n : ℕ) (point : List ℤ) (d : Float) (found : ℕ) (ds : List Float) (ps : List ℤ) where
+  -- no place is left
+  pub push-full : length ds ≤ found → Pushed n point d found (found + 1) ds ds ps ps
+  push-full h = record { seen-as = λ s e. full n s found d ds ps h; counted = refl; distances-length = refl; points-length = refl }
 
   -- there is one
-  pub stored : s .listed < length ds → length ps ≡ length ds * n → n ≤ length (s .point) → seen n (counted s) (set ds (s .listed) d) (paste ps (s .listed * n) (s .point) n) ≡ leaf true (length ds) zs d old (s .radius) (s .nodes)
-  stored h shaped long =
-      let a : min (s .listed + 1) (length (set ds (s .listed) d)) ≡ suc (s .listed) = omega (arith, length-set ds (s .listed) d) in
-      let b : s .listed ≡ min (s .listed) (length ds) = omega arith in
-      seen-by (set ds (s .listed) d) (paste ps (s .listed * n) (s .point) n) (suc (s .listed)) a
-      ∙ ap storing (stored-row n (s .listed) ds ps (s .point) d h shaped long)
-      ∙ ap (λ (k : ℕ). storing (rows n k ds ps ++ record { distance = d; point = zs } ∷ [])) b
-      ∙ sym (leaf-by true (lt-ltb (s .listed) (length ds) h))
+  pub push-stored : found < length ds → length ps ≡ length ds * n → n ≤ length point → (ps′ : List ℤ) → ps′ ≡ paste ps (found * n) point n → Pushed n point d found (found + 1) ds (set ds found d) ps ps′
+  push-stored h shaped long ps′ w = record {
+    seen-as = λ s e.
+        ap (seen n (carried true s (found + 1) false) (set ds found d)) (w ∙ ap (λ (p : List ℤ). paste ps (found * n) p n) (sym e))
+        ∙ stored n s found d ds ps h shaped (omega (arith, long, ap length e));
+    counted = refl;
+    distances-length = length-set ds found d;
+    points-length = ap length w ∙ length-paste ps (found * n) point n (omega (arith, inside n found ds ps h shaped)) (omega arith);
+  }

@@ -1,10 +1,12 @@
 -- What a call of `run` starts from and what it changes, as the definitions see it; and the call at the walk's foot. Assumes nothing.
 use mathlib.Core.Path.{_≡_, refl, ap, sym, _∙_}
-use mathlib.Core.Bool.{Bool, true, false}
+use mathlib.Core.Bool.{Bool, true, false, cond, true≢false}
 use mathlib.Core.List.{List}
 use Prim.Native.Nat.{ℕ, _+_, _≤_}
 use native.Mathlib.Omega.{arith}
+use lib.Dec.{eqb}
 use lib.IntN.{ℤ}
+use borrow.Author.Tests.{eqb-true}
 use lib.ListN.{length, set, take}
 use lib.Ieee.{Float}
 use Rattle.definitions.specs.Table.{Table, dimension}
@@ -13,28 +15,25 @@ use Rattle.definitions.specs.Walk.{Walked, ended, exhausted, Leaf, Descent, wal
 use Rattle.definitions.proofs.Turns.{walk-leaf, leaf-ended}
 use Rattle.distance.specs.Residuals.{places}
 use Rattle.search.specs.Kept.{Kept, leaf}
+use Rattle.search.specs.View.{Search, carried, kept, seen, walkFrom, Considered, Pushed, Ready, Returned}
 use Rattle.search.specs.declared.RecursiveSearch.{RecursiveSearch}
-use Rattle.search.specs.View.{kept, seen, walkFrom, Ready, Returned}
 use Rattle.search.proofs.Leaves.{shown-held, shown-exhausted}
 
 -- what the walk changes
 pub record State : Type 0 where
-  pub search : RecursiveSearch
+  pub search : Search
   pub rest : List Float
   pub distances : List Float
   pub points : List ℤ
 
-abbrev pub state : RecursiveSearch → List Float → List Float → List ℤ → State
+abbrev pub state : Search → List Float → List Float → List ℤ → State
 state s rest distances points = record { search = s; rest = rest; distances = distances; points = points }
 
--- a search with a node more; with a coordinate set besides; with its budget spent
-abbrev pub counted : RecursiveSearch → RecursiveSearch
-counted s = record { point = s .point; best = s .best; radius = s .radius; nodes = s .nodes + 1; found = s .found; exhausted = s .exhausted; listed = s .listed }
-
-abbrev pub marked : RecursiveSearch → ℕ → ℤ → RecursiveSearch
+-- a search with a node more and a coordinate set; and with its budget spent
+abbrev pub marked : Search → ℕ → ℤ → Search
 marked s l z = record { point = set (s .point) l z; best = s .best; radius = s .radius; nodes = s .nodes + 1; found = s .found; exhausted = s .exhausted; listed = s .listed }
 
-abbrev pub halted : RecursiveSearch → RecursiveSearch
+abbrev pub halted : Search → Search
 halted s = record { point = s .point; best = s .best; radius = s .radius; nodes = s .nodes; found = s .found; exhausted = true; listed = s .listed }
 
 -- ---- a state as the definitions see it
@@ -113,7 +112,7 @@ module _ (q : Call) where
     }
 
     -- ---- a leaf
-    pub at-foot : q .depth ≡ 0 → (s : RecursiveSearch) (distances : List Float) (points : List ℤ) → seen size s distances points ≡ leafOf (take size (q .from .search .point)) (q .partial) (keeps size (q .from)) (q .from .search .radius) (q .from .search .nodes) → s .point ≡ q .from .search .point → s .nodes ≡ q .from .search .nodes → s .listed ≤ q .from .search .listed + 1 → length distances ≡ length (q .from .distances) → length points ≡ length (q .from .points) → (seen size s distances points ≡ whole) × Promises (state s (q .from .rest) distances points)
+    pub at-foot : q .depth ≡ 0 → (s : Search) (distances : List Float) (points : List ℤ) → seen size s distances points ≡ leafOf (take size (q .from .search .point)) (q .partial) (keeps size (q .from)) (q .from .search .radius) (q .from .search .nodes) → s .point ≡ q .from .search .point → s .nodes ≡ q .from .search .nodes → s .listed ≤ q .from .search .listed + 1 → length distances ≡ length (q .from .distances) → length points ≡ length (q .from .points) → (seen size s distances points ≡ whole) × Promises (state s (q .from .rest) distances points)
     at-foot z s distances points e point nodes listed dl pl = (
       e
           ∙ sym (walk-leaf leafOf (center (q .table) (q .target)) (q .table) (q .budget) zs (q .partial) (live-view size (q .from)) ∙ leaf-ended leafOf (center (q .table) (q .target)) (q .table) (q .budget) zs (q .partial) (keeps size (q .from)) (q .from .search .radius) (q .from .search .nodes))
@@ -133,3 +132,30 @@ module _ (q : Call) where
       where
         zs : List ℤ
         zs = take size (q .from .search .point)
+
+-- ---- the two leaves of the code
+-- a call from a struct and what is lent beside it
+module _ (t : Table) (target : List Float) (budget depth : ℕ) (partial : Float) (s : RecursiveSearch) (found : ℕ) (rest distances : List Float) (points : List ℤ) where
+  abbrev pub callOf : Bool → Bool → Call
+  callOf listing spent = record { listing = listing; table = t; target = target; budget = budget; depth = depth; partial = partial; from = state (carried listing s found spent) rest distances points }
+
+  -- what it comes to, if it ends with that struct and so much lent
+  abbrev pub Ends : Bool → Bool → RecursiveSearch → ℕ → List Float → List ℤ → Type 0
+  Ends listing spent s′ found′ distances′ points′ =
+      (seen (dimension t) (carried listing s′ found′ spent) distances′ points′ ≡ whole (callOf listing spent))
+      × Promises (callOf listing spent) (state (carried listing s′ found′ spent) rest distances′ points′)
+
+  pub foot-pushed : (listing spent : Bool) → listing ≡ true → Asks (callOf listing spent) → depth ≡ 0 → (found′ : ℕ) (distances′ : List Float) (points′ : List ℤ) → Pushed (dimension t) (s .point) partial found found′ distances distances′ points points′ → Ends listing spent s found′ distances′ points′
+  foot-pushed true false e ready z found′ distances′ points′ p = at-foot (callOf true false) ready z (carried true s found′ false) distances′ points′ (p .seen-as s refl) refl refl (omega (arith, p .counted)) (p .distances-length) (p .points-length)
+  foot-pushed true true e ready z found′ distances′ points′ p = absurd (true≢false (ready .live))
+  foot-pushed false spent e ready z found′ distances′ points′ p = absurd (true≢false (sym e))
+
+  pub foot-considered : (listing spent : Bool) → listing ≡ false → Asks (callOf listing spent) → depth ≡ 0 → (s′ : RecursiveSearch) (found′ : ℕ) → Considered (dimension t) s partial found s′ found′ → Ends listing spent s′ found′ distances points
+  foot-considered false false e ready z s′ found′ p = at-foot (callOf false false) ready z (carried false s′ found′ false) distances points (p .seen-as distances points) (p .point) (p .nodes) (omega arith) refl refl
+  foot-considered false true e ready z s′ found′ p = absurd (true≢false (ready .live))
+  foot-considered true spent e ready z s′ found′ p = absurd (true≢false e)
+
+-- a level whose children are leaves of `list`
+pub stores-both : (listing : Bool) (l : ℕ) → cond listing (eqb l 0) false ≡ true → (listing ≡ true) × (l ≡ 0)
+stores-both true l e = (refl, eqb-true l 0 e)
+stores-both false l e = absurd (true≢false (sym e))

@@ -1,6 +1,7 @@
 // The recursive walk of nearest and of list. They differ in what a leaf does, which a flag chooses.
 ghost use mathlib.Core.Path.{_≡_};
-ghost use mathlib.Core.Bool.{true, false};
+ghost use mathlib.Core.Bool.{true, false, cond};
+ghost use lib.Dec.{eqb};
 ghost use mathlib.Core.List.{List};
 ghost use Prim.Native.Nat.{_*_, _≤_, _<_, _^_, _+_};
 ghost use lib.ListN.{length, take, getD};
@@ -13,23 +14,19 @@ ghost use Rattle.definitions.specs.Seeds.{alongFrom};
 ghost use Rattle.definitions.specs.Zigzag as Z;
 ghost use Rattle.distance.specs.Residuals.{places};
 ghost use Rattle.children.specs.View.{levelOf};
-ghost use Rattle.search.specs.Kept.{leaf};
-ghost use Rattle.search.specs.View.{kept, seen, withBest, fresh, walkFrom, Ready, Returned};
+ghost use Rattle.search.specs.View.{carried, seen, withBest, fresh, walkFrom, Considered, Pushed, Ready, Returned};
 use children::Child;
 use children::Children;
 use children::Level;
 use distance::center;
 
-// The point under trial, the best so far, the standing radius, the number of nodes, whether there is a best, whether
-// the budget ran out, and the number of points found for the list.
+// The point under trial, the best so far, the standing radius and the number of nodes. Each call of the walk copies it, so
+// nothing more belongs in it.
 pub struct RecursiveSearch {
     pub point: [i64; 23],
     pub best: [i64; 23],
     pub radius: f64,
     pub nodes: u64,
-    pub found: bool,
-    pub exhausted: bool,
-    pub listed: u64,
 }
 
 // Whether the point under trial is lexicographically smaller than the best, coordinate 0 first.
@@ -62,22 +59,18 @@ fn taken(s: RecursiveSearch, distance: f64) -> RecursiveSearch
     RecursiveSearch {
         best: point,
         radius: distance,
-        found: true,
         ..s
     }
 }
 
 // The leaf of nearest: the point under trial becomes the best if there is none, if its distance is smaller, or if that
-// is equal and the point lexicographically smaller.
-fn consider(s: RecursiveSearch, n: usize, distance: f64) -> RecursiveSearch
+// is equal and the point lexicographically smaller. `found` is 0 as long as there is none, and 1 then.
+fn consider(s: RecursiveSearch, n: usize, distance: f64, found: &mut u64) -> RecursiveSearch
     requires { ⌜ n ≤ 23 ⌝ }
-    requires { ⌜ s .exhausted ≡ false ⌝ }
-    ensures { λ r. ⌜ ((distances : List Float) (points : List ℤ) → seen n r distances points ≡ leaf false (length distances) (take n (s .point)) distance (kept n s distances points) (s .radius) (s .nodes)) ⌝ }
-    ensures { λ r. ⌜ r .point ≡ s .point ⌝ }
-    ensures { λ r. ⌜ r .nodes ≡ s .nodes ⌝ }
-    ensures { λ r. ⌜ r .listed ≡ s .listed ⌝ }
+    ensures { λ r. ⌜ Considered n s distance (now (found .entry)) r (now (found .exit)) ⌝ }
 {
-    if !s.found {
+    if *found == 0 {
+        *found = 1;
         return taken(s, distance);
     }
     if distance < s.radius {
@@ -105,61 +98,39 @@ fn write(point: &[i64; 23], n: usize, from: usize, points: &mut [i64])
     }
 }
 
-// The leaf of list: the point under trial is counted, and stored with its distance if there is a place left.
+// The leaf of list: a point is counted, and stored with its distance if there is a place left.
 fn push(
-    mut s: RecursiveSearch,
+    point: &[i64; 23],
     n: usize,
     distance: f64,
     distances: &mut [f64],
     points: &mut [i64],
-) -> RecursiveSearch
+    found: &mut u64,
+)
     requires { ⌜ n ≤ 23 ⌝ }
-    requires { ⌜ s .exhausted ≡ false ⌝ }
-    requires { ⌜ s .listed ≤ 2 ^ 60 ⌝ }
+    requires { ⌜ length (now point) ≡ 23 ⌝ }
+    requires { ⌜ now found ≤ 2 ^ 60 ⌝ }
     requires { ⌜ length (now distances) ≤ 4096 ⌝ }
     requires { ⌜ length (now points) ≡ length (now distances) * n ⌝ }
-    ensures { λ r. ⌜ seen n r (now (distances .exit)) (now (points .exit)) ≡ leaf true (length (now (distances .entry))) (take n (s .point)) distance (kept n s (now (distances .entry)) (now (points .entry))) (s .radius) (s .nodes) ⌝ }
-    ensures { λ r. ⌜ r .point ≡ s .point ⌝ }
-    ensures { λ r. ⌜ r .nodes ≡ s .nodes ⌝ }
-    ensures { λ r. ⌜ r .listed ≡ s .listed + 1 ⌝ }
-    ensures { λ r. ⌜ length (now (distances .exit)) ≡ length (now (distances .entry)) ⌝ }
-    ensures { λ r. ⌜ length (now (points .exit)) ≡ length (now (points .entry)) ⌝ }
+    ensures { λ r. ⌜ Pushed n (now (point .entry)) distance (now (found .entry)) (now (found .exit)) (now (distances .entry)) (now (distances .exit)) (now (points .entry)) (now (points .exit)) ⌝ }
 {
-    let at = s.listed as usize;
-    s.listed += 1;
+    let at = *found as usize;
+    *found += 1;
     if at >= distances.len() {
-        return s;
+        return;
     }
     distances[at] = distance;
-    write(&s.point, n, at * n, points);
-    s
+    write(point, n, at * n, points);
 }
 
-// A leaf, of list or of nearest.
-fn at_leaf(
-    s: RecursiveSearch,
-    n: usize,
-    distance: f64,
-    distances: &mut [f64],
-    points: &mut [i64],
-    listing: bool,
-) -> RecursiveSearch
-    requires { ⌜ n ≤ 23 ⌝ }
-    requires { ⌜ s .exhausted ≡ false ⌝ }
-    requires { ⌜ s .listed ≤ 2 ^ 60 ⌝ }
-    requires { ⌜ length (now distances) ≤ 4096 ⌝ }
-    requires { ⌜ length (now points) ≡ length (now distances) * n ⌝ }
-    ensures { λ r. ⌜ seen n r (now (distances .exit)) (now (points .exit)) ≡ leaf listing (length (now (distances .entry))) (take n (s .point)) distance (kept n s (now (distances .entry)) (now (points .entry))) (s .radius) (s .nodes) ⌝ }
-    ensures { λ r. ⌜ r .point ≡ s .point ⌝ }
-    ensures { λ r. ⌜ r .nodes ≡ s .nodes ⌝ }
-    ensures { λ r. ⌜ r .listed ≤ s .listed + 1 ⌝ }
-    ensures { λ r. ⌜ length (now (distances .exit)) ≡ length (now (distances .entry)) ⌝ }
-    ensures { λ r. ⌜ length (now (points .exit)) ≡ length (now (points .entry)) ⌝ }
+// Whether a level's children are leaves of list, which need no call.
+fn stores_at(listing: bool, level: usize) -> bool
+    ensures { λ r. ⌜ r ≡ cond listing (eqb level 0) false ⌝ }
 {
     if listing {
-        return push(s, n, distance, distances, points);
+        return level == 0;
     }
-    consider(s, n, distance)
+    false
 }
 
 // A level's generator: its centre comes from the residuals above it.
@@ -184,7 +155,11 @@ fn enter(
 
 // The walk with `depth` levels left, at whose foot `listing` chooses the leaf. `partial` is the sum of the terms above,
 // and `rest` the residuals beside the point under trial. The list goes into `distances` and `points`, n coordinates for
-// each distance, in the order of finding.
+// each distance, in the order of finding. `found` is the number of its points, or of nearest whether there is a best;
+// `exhausted` whether the budget ran out.
+//
+// A child is followed when the next one is known: the walk below the last child is the call's result, without a copy of
+// the struct on the way back.
 pub fn run(
     mu: &[f64],
     weights: &[f64],
@@ -192,38 +167,71 @@ pub fn run(
     rest: &mut [f64; 23],
     distances: &mut [f64],
     points: &mut [i64],
+    found: &mut u64,
+    exhausted: &mut bool,
     listing: bool,
     budget: u64,
     depth: usize,
     partial: f64,
     mut s: RecursiveSearch,
 ) -> RecursiveSearch
-    requires { ⌜ Ready (now weights) (now mu) (now target) (now rest) (now distances) (now points) budget depth s ⌝ }
-    ensures { λ r. ⌜ seen (length (now (weights .entry))) r (now (distances .exit)) (now (points .exit)) ≡ walkFrom listing (table (now (weights .entry)) (now (mu .entry))) (now (target .entry)) budget depth partial s (now (distances .entry)) (now (points .entry)) ⌝ }
-    ensures { λ r. ⌜ Returned (length (now (weights .entry))) budget depth s r (now (rest .entry)) (now (rest .exit)) (now (distances .entry)) (now (distances .exit)) (now (points .entry)) (now (points .exit)) ⌝ }
+    requires { ⌜ Ready (now weights) (now mu) (now target) (now rest) (now distances) (now points) budget depth (carried listing s (now found) (now exhausted)) ⌝ }
+    ensures { λ r. ⌜ seen (length (now (weights .entry))) (carried listing r (now (found .exit)) (now (exhausted .exit))) (now (distances .exit)) (now (points .exit)) ≡ walkFrom listing (table (now (weights .entry)) (now (mu .entry))) (now (target .entry)) budget depth partial (carried listing s (now (found .entry)) (now (exhausted .entry))) (now (distances .entry)) (now (points .entry)) ⌝ }
+    ensures { λ r. ⌜ Returned (length (now (weights .entry))) budget depth (carried listing s (now (found .entry)) (now (exhausted .entry))) (carried listing r (now (found .exit)) (now (exhausted .exit))) (now (rest .entry)) (now (rest .exit)) (now (distances .entry)) (now (distances .exit)) (now (points .entry)) (now (points .exit)) ⌝ }
 {
     if depth == 0 {
-        return at_leaf(s, weights.len(), partial, distances, points, listing);
+        if listing {
+            push(&s.point, weights.len(), partial, distances, points, found);
+            return s;
+        }
+        return consider(s, weights.len(), partial, found);
     }
     let level = depth - 1;
-    let Level::Open(mut zigzag) = enter(mu, weights, target, rest, level, s.radius - partial) else {
+    let Level::Open(made) = enter(mu, weights, target, rest, level, s.radius - partial) else {
         return s;
     };
+    let Child::At(mut child, mut zigzag) = made.first() else {
+        return s;
+    };
+    let storing = stores_at(listing, level);
     loop {
-        let Child::At(child, after) = zigzag.next() else {
-            return s;
-        };
-        zigzag = after;
         if s.nodes >= budget {
-            s.exhausted = true;
+            *exhausted = true;
             return s;
         }
         s.nodes += 1;
         let sum = partial + child.term;
+        let z = child.z;
+        s.point[level] = z;
+        rest[level] = target[level] - child.value;
+        let following = zigzag.next();
         if sum <= s.radius {
-            let z = child.z;
-            s.point[level] = z;
-            rest[level] = target[level] - child.value;
+            if storing {
+                push(&s.point, weights.len(), sum, distances, points, found);
+                let Child::At(trial, after) = following else {
+                    return s;
+                };
+                child = trial;
+                zigzag = after;
+                continue;
+            }
+            let Child::At(trial, after) = following else {
+                return run(
+                    mu,
+                    weights,
+                    target,
+                    rest,
+                    distances,
+                    points,
+                    found,
+                    exhausted,
+                    listing,
+                    budget,
+                    level,
+                    sum,
+                    s,
+                );
+            };
             s = run(
                 mu,
                 weights,
@@ -231,16 +239,26 @@ pub fn run(
                 rest,
                 distances,
                 points,
+                found,
+                exhausted,
                 listing,
                 budget,
                 level,
                 sum,
                 s,
             );
-            if s.exhausted {
+            if *exhausted {
                 return s;
             }
+            child = trial;
+            zigzag = after;
+            continue;
         }
+        let Child::At(trial, after) = following else {
+            return s;
+        };
+        child = trial;
+        zigzag = after;
     }
 }
 
@@ -253,8 +271,5 @@ pub fn begun(radius: f64) -> RecursiveSearch
         best: [0; 23],
         radius,
         nodes: 0,
-        found: false,
-        exhausted: false,
-        listed: 0,
     }
 }

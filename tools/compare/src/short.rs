@@ -400,18 +400,22 @@ fn at_the_ends(entry: f64, visit: Visit) {
     }
 }
 
-/// Lists around 4,096 points, and around the places that they have.
+/// Lists around 256 and 4,096 points, and around as many places: there a call takes longer arrays, and there they end.
 fn long_lists(visit: Visit) {
-    for (target, radius) in [(0.0, 2047.0), (0.5, 2047.5), (0.0, 2048.0), (0.5, 2048.5), (0.0, 2600.0)] {
-        for places in [0, 1, 256, 4094, 4095, 4096] {
-            for budget in [0, 4094, 4095, 4096, 4097, 4098, 10_000, MOST_NODES] {
-                let case = Case::new(Call::List, &[1.0], &[0.0], &[target], radius * radius, budget);
-                visit(case.with_places(places));
+    for most in [256, 4096] {
+        let half = most as f64 / 2.0 - 1.0;
+        let far = [(0.0, half), (0.5, half + 0.5), (0.0, half + 1.0), (0.5, half + 1.5), (0.0, half + 553.0)];
+        for (target, radius) in far {
+            for places in [0, 1, 255, 256, 257, 4094, 4095, 4096] {
+                for budget in [0, most - 2, most - 1, most, most + 1, most + 2, 10_000, MOST_NODES] {
+                    let case = Case::new(Call::List, &[1.0], &[0.0], &[target], radius * radius, budget);
+                    visit(case.with_places(places));
+                }
             }
         }
     }
     for radius in [300.0, 1300.0, 1310.0, 1330.0] {
-        for places in [256, 942, 4095, 4096] {
+        for places in [255, 256, 257, 942, 4095, 4096] {
             let case = Case::new(Call::List, &[1.0, 1.0], &[0.0; 4], &[0.0, 0.25], radius, MOST_NODES);
             visit(case.with_places(places));
         }

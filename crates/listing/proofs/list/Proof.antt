@@ -1,34 +1,34 @@
--- `list` meets its contract: a refusal of its checks leaves both slices, and after a pass it hands on its private arrays. Assumes nothing.
-use mathlib.Core.Path.{ap, sym, _∙_}
-use Prim.Native.Nat.{_≤_}
-use native.Mathlib.Nat.{mul-le-mul}
-use native.Mathlib.Omega.{arith}
-use lib.ListN.{length}
+-- `list` meets its contract: a refusal of its checks leaves both slices, and a pass goes on to arrays of either size. Assumes nothing.
+use mathlib.Core.Path.{_≡_, ap, sym, _∙_}
 use lib.Ieee.{Float}
 use borrow.Author.Needs.{needs}
 use Rattle.definitions.specs.Table.{table}
+use Rattle.definitions.specs.Checks.{pass}
 use Rattle.definitions.specs.Calls as C
-use Rattle.definitions.proofs.Passed.{ListPassed, list-passed}
 use Rattle.definitions.proofs.Answers.{list-refused}
 use Rattle.refusals.specs.Numbers.{verdict, numbered}
 use Rattle.listing.specs.View.{countsOf}
 use Rattle.listing.proofs.Endings.{answer-refused}
-use Rattle.listing.proofs.Repeats.{repeat-prefix}
 use Rattle.listing.proofs.list.Statement.{statement}
 use Rattle.listing.proofs.list.Tie as tie
 
--- what the checks leave
-known : (c : tie.After-enum-told) →
-    let a = c .before .before .before .before .before .before .before .before .before .args in
-    ListPassed (table (a .weights .now) (a .mu .now)) (a .target .now) (a .distances .now) (a .points .now) (a .radius) (a .budget)
-known c =
-    let at = c .before .before in
-    let a = at .before .before .before .before .before .before .before .args in
-    list-passed (table (a .weights .now) (a .mu .now)) (a .target .now) (a .distances .now) (a .points .now) (a .radius) (a .budget) (sym (at .list-check .ensures) ∙ ap verdict (c .enum-told .given .1))
+-- the checks pass at the radius handed on
+passed : (c : tie.After-handed-on) →
+    let a = c .before .before .before .before .before .before .before .before .before .before .args in
+    C.listChecks (table (a .weights .now) (a .mu .now)) (a .target .now) (a .distances .now) (a .points .now) (c .handed-on .result) (a .budget) ≡ pass
+passed c =
+    let a = c .before .before .before .before .before .before .before .before .before .before .args in
+    ap (λ (R : Float). C.listChecks (table (a .weights .now) (a .mu .now)) (a .target .now) (a .distances .now) (a .points .now) R (a .budget)) (c .handed-on .ensures)
+    ∙ sym (c .before .before .before .list-check .ensures)
+    ∙ ap verdict (c .before .enum-told .given .1)
 
--- the points fit the private array
-points-fit : (c : tie.After-enum-told) → length (c .before .before .before .before .before .before .before .before .before .args .points .now) ≤ 94208
-points-fit c = let p = known c in omega (arith, p .room, mul-le-mul (p .checked .small) (p .places))
+-- the answer at the radius handed on is the one at the radius
+same : (c : tie.After-handed-on) →
+    let a = c .before .before .before .before .before .before .before .before .before .before .args in
+    C.list (table (a .weights .now) (a .mu .now)) (a .target .now) (a .distances .now) (a .points .now) (c .handed-on .result) (a .budget) ≡ C.list (table (a .weights .now) (a .mu .now)) (a .target .now) (a .distances .now) (a .points .now) (a .radius) (a .budget)
+same c =
+    let a = c .before .before .before .before .before .before .before .before .before .before .args in
+    ap (λ (R : Float). C.list (table (a .weights .now) (a .mu .now)) (a .target .now) (a .distances .now) (a .points .now) R (a .budget)) (c .handed-on .ensures)
 
 list-check-requires : tie.Need-list-check-requires
 list-check-requires c κs = search needs
@@ -58,43 +58,8 @@ enum-told c = search needs
 handed-on-requires : tie.Need-handed-on-requires
 handed-on-requires c κs = search needs
 
-array-borrow-prefix-measured : tie.Need-array-borrow-prefix-measured
-array-borrow-prefix-measured c = known (c .before) .places
-
-slice-aggregate-list-into : tie.Need-slice-aggregate-list-into
-slice-aggregate-list-into c = sym (repeat-prefix 4096 _ _ (known (c .before .before) .places))
-
-array-borrow-prefix-vectors : tie.Need-array-borrow-prefix-vectors
-array-borrow-prefix-vectors c = points-fit (c .before .before)
-
-slice-aggregate-list-into-2 : tie.Need-slice-aggregate-list-into-2
-slice-aggregate-list-into-2 c = sym (repeat-prefix 94208 _ _ (points-fit (c .before .before .before)))
-
-array-borrow-prefix-order : tie.Need-array-borrow-prefix-order
-array-borrow-prefix-order c = known (c .before .before .before) .places
-
-slice-aggregate-list-into-3 : tie.Need-slice-aggregate-list-into-3
-slice-aggregate-list-into-3 c = sym (repeat-prefix 4096 _ _ (known (c .before .before .before .before) .places))
-
-array-borrow-prefix-spare : tie.Need-array-borrow-prefix-spare
-array-borrow-prefix-spare c = known (c .before .before .before .before) .places
-
-slice-aggregate-list-into-4 : tie.Need-slice-aggregate-list-into-4
-slice-aggregate-list-into-4 c = sym (repeat-prefix 4096 _ _ (known (c .before .before .before .before .before) .places))
-
-list-into-requires : tie.Need-list-into-requires
-list-into-requires c κs =
-    let start = c .before .before .before .before .before .before in
-    let told = start .before in
-    let at = told .before .before in
-    let a = at .before .before .before .before .before .before .before .args in
-    let few = known told .places in
-    let passed =
-    ap (λ (R : Float). C.listChecks (table (a .weights .now) (a .mu .now)) (a .target .now) (a .distances .now) (a .points .now) R (a .budget)) (start .handed-on .ensures)
-    ∙ sym (at .list-check .ensures)
-    ∙ ap verdict (told .enum-told .given .1)
-    in
-    (passed, (repeat-prefix 4096 _ _ few, (repeat-prefix 94208 _ _ (points-fit told), (repeat-prefix 4096 _ _ few, repeat-prefix 4096 _ _ few))))
+list-short-requires : tie.Need-list-short-requires
+list-short-requires c κs = (passed (c .before .before .before), c .before .before .if1 .taken)
 
 same-length-3 : tie.Need-same-length-3
 same-length-3 c = search needs
@@ -104,15 +69,36 @@ same-length-4 c = search needs
 
 returns-2 : tie.Need-returns-2
 returns-2 c =
-    let done = c .before .before .before .before .before .before .before in
-    let start = done .before .before .before .before .before .before .before in
+    let done = c .before .before .before in
+    let start = done .before .before .before .before in
     let a = start .before .before .before .before .before .before .before .before .before .before .args in
-    let by : Float → C.Answer C.ListAnswer = λ R. C.list (table (a .weights .now) (a .mu .now)) (a .target .now) (a .distances .now) (a .points .now) R (a .budget) in
-    let same = start .handed-on .ensures in (
-      done .list-into .ensures .0 ∙ ap (λ (R : Float). countsOf (by R)) same,
+    let e = same start in (
+      done .list-short .ensures .0 ∙ ap countsOf e,
       (
-        done .list-into .ensures .1 .0 ∙ ap (λ (R : Float). C.listDistances (by R) (a .distances .now)) same,
-        done .list-into .ensures .1 .1 ∙ ap (λ (R : Float). C.listPoints (by R) (a .points .now)) same,
+        done .list-short .ensures .1 .0 ∙ ap (λ (r : C.Answer C.ListAnswer). C.listDistances r (a .distances .now)) e,
+        done .list-short .ensures .1 .1 ∙ ap (λ (r : C.Answer C.ListAnswer). C.listPoints r (a .points .now)) e,
+      ),
+    )
+
+list-long-requires : tie.Need-list-long-requires
+list-long-requires c κs = passed (c .before .before .before)
+
+same-length-5 : tie.Need-same-length-5
+same-length-5 c = search needs
+
+same-length-6 : tie.Need-same-length-6
+same-length-6 c = search needs
+
+returns-3 : tie.Need-returns-3
+returns-3 c =
+    let done = c .before .before .before in
+    let start = done .before .before .before .before in
+    let a = start .before .before .before .before .before .before .before .before .before .before .args in
+    let e = same start in (
+      done .list-long .ensures .0 ∙ ap countsOf e,
+      (
+        done .list-long .ensures .1 .0 ∙ ap (λ (r : C.Answer C.ListAnswer). C.listDistances r (a .distances .now)) e,
+        done .list-long .ensures .1 .1 ∙ ap (λ (r : C.Answer C.ListAnswer). C.listPoints r (a .points .now)) e,
       ),
     )
 
@@ -127,15 +113,11 @@ list-spec =
     returns
     enum-told
     handed-on-requires
-    array-borrow-prefix-measured
-    slice-aggregate-list-into
-    array-borrow-prefix-vectors
-    slice-aggregate-list-into-2
-    array-borrow-prefix-order
-    slice-aggregate-list-into-3
-    array-borrow-prefix-spare
-    slice-aggregate-list-into-4
-    list-into-requires
+    list-short-requires
     same-length-3
     same-length-4
-    returns-2)
+    returns-2
+    list-long-requires
+    same-length-5
+    same-length-6
+    returns-3)

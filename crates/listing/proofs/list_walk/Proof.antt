@@ -1,46 +1,59 @@
 -- `list_walk` meets its contract: the walk from its start is the list walk, and what it stored are its points. Assumes nothing.
 use mathlib.Core.Path.{_≡_, refl, ap, sym, _∙_, subst}
-use mathlib.Core.Bool.{true}
-use mathlib.Core.List.{List, reverse}
-use Prim.Native.Nat.{ℕ, min}
-use lib.ListN.{length, take}
+use mathlib.Core.Bool.{true, false}
+use mathlib.Core.List.{List}
+use Prim.Native.Nat.{ℕ}
+use lib.ListN.{length}
+use lib.IntN.{ℤ}
 use lib.Ieee.{Float, binary64, ofBits}
 use Rattle.definitions.specs.Table.{table}
-use Rattle.definitions.specs.Walk.{ended}
+use Rattle.definitions.specs.Walk.{Walked}
 use Rattle.definitions.specs.Listing.{ListPoint, listWalk}
-use Rattle.sorting.specs.Rows.{rows}
-use Rattle.search.specs.Kept.{Kept}
 use Rattle.search.specs.declared.RecursiveSearch.{RecursiveSearch}
-use Rattle.search.specs.View.{kept, seen, walkFrom, Ready}
+use Rattle.search.specs.View.{Search, carried, seen, walkFrom, Ready}
 use Rattle.search.proofs.Map.{mapped}
 use Rattle.search.proofs.Instances.{listOnly, list-from-start, ready-at-start}
+use Rattle.search.proofs.Outcomes.{is-exhausted, is-listed}
 use Rattle.listing.specs.View.{endingOf}
-use Rattle.listing.proofs.Walks.{walk-exhausted, walk-unlisted, walk-kept, walk-ending}
+use Rattle.listing.proofs.Walks.{exhausted-unlisted, found-ending, found-stored}
 use borrow.Author.Needs.{needs}
 use Rattle.listing.proofs.list_walk.Statement.{statement}
 use Rattle.listing.proofs.list_walk.Tie as tie
 
--- what the search has come to is the list walk
-walked : (c : tie.After-run) →
-    let a = c .before .before .before .before .before .before .before .before .before .args in
-    seen (length (a .weights .now)) (c .run .result) (c .run .last .1 .1 .1 .1 .0) (c .run .last .1 .1 .1 .1 .1 .0) ≡ mapped (listOnly (length (a .distances .now))) (listWalk (table (a .weights .now) (a .mu .now)) (a .target .now) (a .radius) (a .budget))
-walked c =
-    let b = c .before .before .before .before .before .before .before .before .before in
-    let a = b .args in
+abbrev start : tie.After-run → tie.Start
+start v = v .before .before .before .before .before .before .before .before .before .before .before
+
+-- the search at its end, the lent slices, and the walk that it has made
+abbrev end : tie.After-run → Search
+end v = carried true (v .run .result) (v .run .last .1 .1 .1 .1 .1 .1 .0) (v .run .last .1 .1 .1 .1 .1 .1 .1 .0)
+
+abbrev D : tie.After-run → List Float
+D v = v .run .last .1 .1 .1 .1 .0
+
+abbrev P : tie.After-run → List ℤ
+P v = v .run .last .1 .1 .1 .1 .1 .0
+
+abbrev walk : tie.After-run → Walked (List ListPoint)
+walk v = let a = start v .args in listWalk (table (a .weights .now) (a .mu .now)) (a .target .now) (a .radius) (a .budget)
+
+walked : (v : tie.After-run) → seen (length (start v .args .weights .now)) (end v) (D v) (P v) ≡ mapped (listOnly (length (D v))) (walk v)
+walked v =
+    let a = start v .args in
     let t = table (a .weights .now) (a .mu .now) in
-    c .run .ensures .0
-    ∙ ap (λ (s : RecursiveSearch). walkFrom true t (a .target .now) (a .budget) (length (a .weights .now)) (ofBits binary64 0) s (a .distances .now) (a .points .now)) (c .before .begun .ensures)
-    ∙ list-from-start t (a .target .now) (a .budget) (a .radius) (a .distances .now) (a .points .now) (b .pre .0)
+    v .run .ensures .0
+    ∙ ap (λ (s : RecursiveSearch). walkFrom true t (a .target .now) (a .budget) (length (a .weights .now)) (ofBits binary64 0) (carried true s 0 false) (a .distances .now) (a .points .now)) (v .before .begun .ensures)
+    ∙ list-from-start t (a .target .now) (a .budget) (a .radius) (a .distances .now) (a .points .now) (start v .pre .0)
+    ∙ ap (λ (k : ℕ). mapped (listOnly k) (walk v)) (sym (v .run .ensures .1 .distances-length))
 
 begun-requires : tie.Need-begun-requires
 begun-requires c κs = search needs
 
 run-requires : tie.Need-run-requires
 run-requires c κs =
-    let b = c .before .before .before .before .before .before .before .before in
+    let b = c .before .before .before .before .before .before .before .before .before .before in
     let a = b .args in
-    subst (λ (s : RecursiveSearch). Ready (a .weights .now) (a .mu .now) (a .target .now) _ (a .distances .now) (a .points .now) (a .budget) (length (a .weights .now)) s) (sym (c .begun .ensures))
-    (ready-at-start (a .weights .now) (a .mu .now) (a .target .now) _ (a .distances .now) (a .points .now) (a .budget) (a .radius) (b .pre .0) (b .pre .1 .0) (b .pre .1 .1 .0) (b .pre .1 .1 .1 .1 .1) refl (b .pre .1 .1 .1 .0) (b .pre .1 .1 .1 .1 .0))
+    subst (λ (s : RecursiveSearch). Ready (a .weights .now) (a .mu .now) (a .target .now) _ (a .distances .now) (a .points .now) (a .budget) (length (a .weights .now)) (carried true s 0 false)) (sym (c .begun .ensures))
+    (ready-at-start true (a .weights .now) (a .mu .now) (a .target .now) _ (a .distances .now) (a .points .now) (a .budget) (a .radius) (b .pre .0) (b .pre .1 .0) (b .pre .1 .1 .0) (b .pre .1 .1 .1 .1 .1) refl (b .pre .1 .1 .1 .0) (b .pre .1 .1 .1 .1 .0))
 
 same-length : tie.Need-same-length
 same-length c = search needs
@@ -50,16 +63,11 @@ same-length-2 c = search needs
 
 returns : tie.Need-returns
 returns c =
-    let ran = c .before .before .before .before in
-    let a = ran .before .before .before .before .before .before .before .before .before .args in
-    let n = length (a .weights .now) in
-    let w = listWalk (table (a .weights .now) (a .mu .now)) (a .target .now) (a .radius) (a .budget) in
-    let room = length (a .distances .now) in
-    let r = ran .run .result in
-    let left = ran .run .ensures .1 in
-    let k : Kept = kept n r (ran .run .last .1 .1 .1 .1 .0) (ran .run .last .1 .1 .1 .1 .1 .0) in
-    let same = walked ran in
-    (sym (ap endingOf (walk-exhausted room r k w same (c .if1 .taken))), ((λ ps R m q. absurd (walk-unlisted room r k w same (c .if1 .taken) ps R m q)), (left .distances-length, left .points-length)))
+    let v = c .before .before .before .before in
+    let n = length (start v .args .weights .now) in
+    let left = v .run .ensures .1 in
+    let e = is-exhausted (listOnly (length (D v))) n (end v) (D v) (P v) (walk v) (walked v) (c .if1 .taken) in
+    (sym (ap endingOf e), ((λ ps R m q. absurd (exhausted-unlisted (walk v) _ _ e ps R m q)), (left .distances-length, left .points-length)))
 
 same-length-3 : tie.Need-same-length-3
 same-length-3 c = search needs
@@ -69,24 +77,11 @@ same-length-4 c = search needs
 
 returns-2 : tie.Need-returns-2
 returns-2 c =
-    let ran = c .before .before .before .before in
-    let a = ran .before .before .before .before .before .before .before .before .before .args in
-    let n = length (a .weights .now) in
-    let w = listWalk (table (a .weights .now) (a .mu .now)) (a .target .now) (a .radius) (a .budget) in
-    let room = length (a .distances .now) in
-    let r = ran .run .result in
-    let left = ran .run .ensures .1 in
-    let k : Kept = kept n r (ran .run .last .1 .1 .1 .1 .0) (ran .run .last .1 .1 .1 .1 .1 .0) in
-    let same = walked ran in
-    let D = ran .run .last .1 .1 .1 .1 .0 in
-    let P = ran .run .last .1 .1 .1 .1 .1 .0 in
-    let stored : (ps : List ListPoint) (R : Float) (m : ℕ) → w ≡ ended ps R m → rows n (min (length ps) room) D P ≡ take room (reverse ps) = λ ps R m q.
-    let own : k ≡ listOnly room ps = walk-kept room r k w same (c .if1 .left) ps R m q in
-    ap (λ (i : ℕ). rows n (min (length ps) i) D P) (sym (left .distances-length))
-    ∙ ap (λ (v : Kept). rows n (min (v .count) (length D)) D P) (sym own)
-    ∙ ap (λ (v : Kept). v .stored) own
-    in
-    (walk-ending room r k w same (c .if1 .left), (stored, (left .distances-length, left .points-length)))
+    let v = c .before .before .before .before in
+    let n = length (start v .args .weights .now) in
+    let left = v .run .ensures .1 in
+    let l = is-listed n (end v) (D v) (P v) (walk v) (walked v) (c .if1 .left) in
+    (found-ending n (end v) (D v) (P v) (walk v) l, (found-stored n (end v) (D v) (P v) (walk v) l (length (start v .args .distances .now)) (left .distances-length), (left .distances-length, left .points-length)))
 
 pub list-walk-spec : {M : Type 1} → statement M
 list-walk-spec =

@@ -1,6 +1,7 @@
--- `run` walks as the definition does. It ends by its depth, and its loop by what the budget leaves. The loop keeps `Going`; each exit and each turn is a law of
+-- `run` walks as the definition does. It ends by its depth, and its loop by what the budget leaves. The loop keeps `Holding`; each exit and each turn is a law of
 -- `States` or `Going`, at what is known where it stands. Assumes nothing.
-use mathlib.Core.Path.{_≡_, sym, _∙_}
+use mathlib.Core.Path.{_≡_, ap, sym, _∙_}
+use mathlib.Core.Bool.{Bool, true, cond}
 use Prim.Native.Nat.{ℕ, _<_, _+_, _-_}
 use native.Mathlib.Omega.{arith}
 use borrow.Author.Needs.{needs, length-unmapped}
@@ -10,61 +11,83 @@ use mir.Syntax.{w64}
 use mir.Val.{toZ, ofZ}
 use mir.ValLaws.{toZ-ofZ}
 use lib.IntN.{ℤ}
-use lib.ListN.{length}
+use lib.ListN.{length, set, length-set}
 use Rattle.definitions.specs.Table.{table}
-use Rattle.search.proofs.States.{State, state, Call, Asks, unchanged, at-foot}
-use Rattle.search.proofs.Going.{Going, Level, closes, opens, Turn, ends, promised-halted, Tried, stops, prunes, Descends, descends, halts, promised-up, goes-on}
+use Rattle.children.specs.declared.Children.{Children}
+use Rattle.children.specs.declared.Level.the-variants.{Open}
+use Rattle.children.specs.View.{levelOf}
+use Rattle.search.specs.View.{carried}
+use Rattle.search.specs.declared.RecursiveSearch.{RecursiveSearch}
+use Rattle.search.proofs.States.{state, Call, Asks, unchanged, foot-pushed, foot-considered, stores-both}
+use Rattle.search.proofs.Going.{Going, Holding, Level, begins, summed, closes, none-given, opens, Turn, ends, promised-halted, Tried, few-after, sum, stops, Counted, lower-rest, prunes, descends, Below, halts, promised-up, goes-on, lasts}
 use Rattle.search.proofs.run.Reads as run
 use Rattle.search.proofs.run.Kinds as run-kinds
 use Rattle.search.proofs.+run.Lts-run as run-lts
+use Rattle.children.proofs.Children.first.Reads as first-reads
 use Rattle.children.proofs.Children.next.Reads as next-reads
-use Rattle.search.proofs.at_leaf.Reads as at-leaf-reads
+use Rattle.search.proofs.consider.Reads as consider-reads
 use Rattle.search.proofs.enter.Reads as enter-reads
+use Rattle.search.proofs.push.Reads as push-reads
+use Rattle.search.proofs.stores_at.Reads as stores-at-reads
 use Rattle.search.proofs.+run.{statement}
 use Rattle.search.proofs.+run.Tie.{close}
 
-abbrev μ-run : Measures 6 run-kinds.ps ℕ
-μ-run κs a = a .1 .1 .1 .1 .1 .1 .1 .1 .0
+abbrev μ-run : Measures 8 run-kinds.ps ℕ
+μ-run κs a = a .1 .1 .1 .1 .1 .1 .1 .1 .1 .1 .0
 
-abbrev run-at : ℕ → In 6 run-kinds.ps
-run-at t = and 6 run-kinds.ps (is 6 run-kinds.ps μ-run t) run.Pre
+abbrev run-at : ℕ → In 8 run-kinds.ps
+run-at t = and 8 run-kinds.ps (is 8 run-kinds.ps μ-run t) run.Pre
 
-abbrev run-below : ℕ → In 6 run-kinds.ps
-run-below t = and 6 run-kinds.ps (falls 6 run-kinds.ps _<_ μ-run t) run.Pre
+abbrev run-below : ℕ → In 8 run-kinds.ps
+run-below t = and 8 run-kinds.ps (falls 8 run-kinds.ps _<_ μ-run t) run.Pre
 
 abbrev claims : ℕ → run-lts.Claims
-claims t = (at-leaf-reads.Asked, at-leaf-reads.Learnt, enter-reads.Asked, enter-reads.Learnt, next-reads.Asked, next-reads.Learnt, run-below t, run.Post)
+claims t = (push-reads.Asked, push-reads.Learnt, consider-reads.Asked, consider-reads.Learnt, enter-reads.Asked, enter-reads.Learnt, first-reads.Asked, first-reads.Learnt, stores-at-reads.Asked, stores-at-reads.Learnt, next-reads.Asked, next-reads.Learnt, run-below t, run.Post)
 
 abbrev run-Inv-loop : run-lts.InvT-loop
-run-Inv-loop mu weights target rest₀ distances₀ points₀ listing budget depth partial s₀ level zigzag₀ rest distances points s zigzag =
-    Going
-    (record { listing = listing; table = table weights mu; target = target; budget = budget; depth = depth; partial = partial; from = state s₀ rest₀ distances₀ points₀ })
+run-Inv-loop mu weights target rest₀ distances₀ points₀ found₀ exhausted₀ listing budget depth partial s₀ level child₀ zigzag₀ storing rest distances points found exhausted s child zigzag =
+    Holding
+    (record { listing = listing; table = table weights mu; target = target; budget = budget; depth = depth; partial = partial; from = state (carried listing s₀ found₀ exhausted₀) rest₀ distances₀ points₀ })
     level
-    (state s rest distances points)
+    (state (carried listing s found exhausted) rest distances points)
+    child
     zigzag
 
 abbrev run-μ-loop : run-lts.MeasureT-loop
-run-μ-loop mu weights target rest₀ distances₀ points₀ listing budget depth partial s₀ level zigzag₀ rest distances points s zigzag = budget - s .nodes
+run-μ-loop mu weights target rest₀ distances₀ points₀ found₀ exhausted₀ listing budget depth partial s₀ level child₀ zigzag₀ storing rest distances points found exhausted s child zigzag = budget - s .nodes
 
 module _ (t : ℕ) where
-  -- ---- places of the code: the start; above the foot; in the loop; with a child; going down; and back
+  -- ---- places of the code: the start; at the foot and above it; at an open level; in the loop; with the child set; with the next one known; with a leaf of the
+  -- list stored; back from the last child, and from another
   abbrev AtStart : Type 0
   AtStart = run-lts.Start (claims t) (run-at t) run.Post run-Inv-loop run-μ-loop
+
+  abbrev AtFoot : Type 0
+  AtFoot = run-lts.Then1 (claims t) (run-at t) run.Post run-Inv-loop run-μ-loop
 
   abbrev AtLevel : Type 0
   AtLevel = run-lts.Else1 (claims t) (run-at t) run.Post run-Inv-loop run-μ-loop
 
+  abbrev AtOpen : Type 0
+  AtOpen = run-lts.After-known-told (claims t) (run-at t) run.Post run-Inv-loop run-μ-loop
+
   abbrev AtLoop : Type 0
   AtLoop = run-lts.At-loop (claims t) (run-at t) run.Post run-Inv-loop run-μ-loop
 
-  abbrev AtChild : Type 0
-  AtChild = run-lts.After-known-told2 (claims t) (run-at t) run.Post run-Inv-loop run-μ-loop
+  abbrev AtMarked : Type 0
+  AtMarked = run-lts.After-struct-told (claims t) (run-at t) run.Post run-Inv-loop run-μ-loop
 
-  abbrev AtDescent : Type 0
-  AtDescent = run-lts.After-struct-told (claims t) (run-at t) run.Post run-Inv-loop run-μ-loop
+  abbrev AtNext : Type 0
+  AtNext = run-lts.After-next (claims t) (run-at t) run.Post run-Inv-loop run-μ-loop
+
+  abbrev AtStored : Type 0
+  AtStored = run-lts.After-push2 (claims t) (run-at t) run.Post run-Inv-loop run-μ-loop
+
+  abbrev AtLast : Type 0
+  AtLast = run-lts.After-run (claims t) (run-at t) run.Post run-Inv-loop run-μ-loop
 
   abbrev AtReturn : Type 0
-  AtReturn = run-lts.After-run (claims t) (run-at t) run.Post run-Inv-loop run-μ-loop
+  AtReturn = run-lts.After-run2 (claims t) (run-at t) run.Post run-Inv-loop run-μ-loop
 
   -- ---- what is known there
   abbrev call : AtStart → Call
@@ -75,11 +98,17 @@ module _ (t : ℕ) where
     budget = b .args .budget;
     depth = b .args .depth;
     partial = b .args .partial;
-    from = state (b .args .t11) (b .args .rest .now) (b .args .distances .now) (b .args .points .now);
+    from = state (carried (b .args .listing) (b .args .t13) (b .args .found .now) (b .args .exhausted .now)) (b .args .rest .now) (b .args .distances .now) (b .args .points .now);
   }
 
   asked : (b : AtStart) → Asks (call b)
   asked b = b .pre .1
+
+  sized : (b : AtStart) → length (b .args .t13 .point) ≡ 23
+  sized b = length-unmapped ℤ (b .args .t13 .point) 23 (b .good .1 .1 .1 .1 .1 .1 .1 .1 .1 .1 .1 .1 .0 .1 .1 .0 .1 .0 .1)
+
+  abbrev footed : AtFoot → AtStart
+  footed f = f .before .before .before .before .before
 
   -- above the foot
   abbrev start : AtLevel → AtStart
@@ -94,57 +123,130 @@ module _ (t : ℕ) where
   low : (m : AtLevel) → start m .args .depth - 1 < length (start m .args .weights .now)
   low m = omega (arith, deep m, asked (start m) .within)
 
+  -- an open level
+  abbrev entered : AtOpen → AtLevel
+  entered k = k .before .before .before .before .before
+
+  abbrev generator : AtOpen → Children
+  generator k = k .before .made .given .0 .0
+
+  made : (k : AtOpen) → Open (generator k) ≡ levelOf (begins (level (entered k)) (summed (level (entered k))))
+  made k = sym (k .before .made .given .1) ∙ k .before .before .before .enter .ensures
+
+  abbrev opened : (k : AtOpen) → Turn (call (start (entered k)))
+  opened k = record { at = level (entered k); now = call (start (entered k)) .from; generator = generator k; going = opens (level (entered k)) (generator k) (made k) (sized (start (entered k))) }
+
   -- in the loop
   abbrev above : AtLoop → AtLevel
-  above w = w .before .before .before .before .before .before
+  above w = entered (w .before .before .before .before .before .before)
 
-  abbrev turn : (w : AtLoop) → Turn (call (start (above w)))
-  turn w = record {
-    at = level (above w);
-    now = state (w .loop .s) (w .loop .rest) (w .loop .distances) (w .loop .points);
-    generator = w .loop .zigzag;
-    going = w .loop .inv;
+  abbrev tried : (w : AtLoop) → Tried (call (start (above w)))
+  tried w = record {
+    turn = record {
+      at = level (above w);
+      now = state (carried (start (above w) .args .listing) (w .loop .s) (w .loop .found) (w .loop .exhausted)) (w .loop .rest) (w .loop .distances) (w .loop .points);
+      generator = w .loop .inv .generator;
+      going = w .loop .inv .going;
+    };
+    trial = w .loop .child;
+    after = w .loop .zigzag;
+    gives = w .loop .inv .gives;
   }
 
-  -- with a child
-  abbrev looping : AtChild → AtLoop
-  looping k = k .before .before .before .before
+  -- with the child set
+  abbrev looping : AtMarked → AtLoop
+  looping g = g .before .before .before
 
-  abbrev tried : (k : AtChild) → Tried (call (start (above (looping k))))
-  tried k = record {
-    turn = turn (looping k);
-    trial = k .before .child .given .0 .0;
-    after = k .before .child .given .0 .1 .0;
-    gives = sym (k .before .child .given .1) ∙ k .before .before .before .next .ensures;
+  in-array : (g : AtMarked) → start (above (looping g)) .args .depth - 1 < 23
+  in-array g = omega (arith, low (above (looping g)), asked (start (above (looping g))) .small)
+
+  abbrev counted : (g : AtMarked) → Counted (call (start (above (looping g))))
+  counted g = record {
+    tried = tried (looping g);
+    free = g .before .before .if3 .left;
+    stored = toZ w64 (ofZ w64 (tried (looping g) .trial .z));
+    stored-is = toZ-ofZ w64 (tried (looping g) .trial .z) (record { sfits = g .struct-told .given .0 .1 });
   }
 
-  -- going down, and back
-  abbrev known : AtDescent → AtChild
-  known g = g .before .before .before .before
+  -- with the next one known
+  abbrev marked : AtNext → AtMarked
+  marked k = k .before .before .before
 
-  in-array : (g : AtDescent) → start (above (looping (known g))) .args .depth - 1 < 23
-  in-array g = omega (arith, low (above (looping (known g))), asked (start (above (looping (known g)))) .small)
+  -- the call there, and the level's number
+  abbrev callAt : AtNext → Call
+  callAt k = call (start (above (looping (marked k))))
 
-  abbrev descent : (g : AtDescent) → Descends (call (start (above (looping (known g)))))
-  descent g = record {
-    tried = tried (known g);
-    free = g .before .before .before .if2 .left;
-    passes = g .before .if3 .taken;
-    stored = toZ w64 (ofZ w64 (tried (known g) .trial .z));
-    stored-is = toZ-ofZ w64 (tried (known g) .trial .z) (record { sfits = g .struct-told .given .0 .1 });
+  abbrev at : AtNext → ℕ
+  at k = start (above (looping (marked k))) .args .depth - 1
+
+  abbrev child : (k : AtNext) → Counted (callAt k)
+  child k = counted (marked k)
+
+  -- a leaf of the list: both what `stores_at` asks for
+  both : (k : AtNext) → looping (marked k) .before .stores-at .result ≡ true → (callAt k .listing ≡ true) × (at k ≡ 0)
+  both k e = stores-both _ _ (sym (looping (marked k) .before .stores-at .ensures) ∙ e)
+
+  -- the struct with the child set
+  abbrev struct : AtNext → RecursiveSearch
+  struct k = let s = looping (marked k) .loop .s in record { point = set (s .point) (at k) (child k .stored); best = s .best; radius = s .radius; nodes = s .nodes + 1 }
+
+  struct-sized : (k : AtNext) → length (struct k .point) ≡ 23
+  struct-sized k = let w = looping (marked k) in length-set (w .loop .s .point) (at k) (child k .stored) ∙ w .loop .inv .going .sized
+
+  abbrev beside : AtStored → AtNext
+  beside v = v .before .before .before .before .before .before .before .before
+
+  abbrev stored : (v : AtStored) → Below (callAt (beside v))
+  stored v =
+      let k = beside v in
+      let w = looping (marked k) in
+      let q = callAt k in
+      let h = both k (v .before .before .before .before .before .before .if5 .taken) in
+      let leaf = foot-pushed (q .table) (q .target) (q .budget) (at k) (sum (tried w)) (struct k) (w .loop .found) (lower-rest (child k)) (w .loop .distances) (w .loop .points) (q .listing) (w .loop .exhausted) (h .0) (descends (child k)) (h .1) (v .push2 .last .1 .1 .1 .1 .1 .0) (v .push2 .last .1 .1 .1 .0) (v .push2 .last .1 .1 .1 .1 .0) (v .push2 .ensures) in
+      record {
+        child = child k;
+        passes = v .before .before .before .before .before .before .before .if4 .taken;
+        came = state (carried (q .listing) (struct k) (v .push2 .last .1 .1 .1 .1 .1 .0) (w .loop .exhausted)) (lower-rest (child k)) (v .push2 .last .1 .1 .1 .0) (v .push2 .last .1 .1 .1 .1 .0);
+        gave = leaf .0;
+        left = leaf .1;
+        sized = struct-sized k;
+      }
+
+  -- back from the last child, and from another
+  abbrev lower : AtLast → AtNext
+  lower v = v .before .before .before .before .before .before .before .before .before .before
+
+  abbrev last : (v : AtLast) → Below (callAt (lower v))
+  last v = record {
+    child = child (lower v);
+    passes = v .before .before .before .before .before .before .before .before .before .if4 .taken;
+    came = state (carried (callAt (lower v) .listing) (v .run .result) (v .run .last .1 .1 .1 .1 .1 .1 .0) (v .run .last .1 .1 .1 .1 .1 .1 .1 .0)) (v .run .last .1 .1 .1 .0) (v .run .last .1 .1 .1 .1 .0) (v .run .last .1 .1 .1 .1 .1 .0);
+    gave = v .run .ensures .0;
+    left = v .run .ensures .1;
+    sized = length-unmapped ℤ (v .run .result .point) 23 (v .run .ok .1 .1 .0 .1 .0 .1);
   }
 
-  abbrev lower : AtReturn → AtDescent
-  lower v = v .before .before .before .before .before .before
+  abbrev deeper : AtReturn → AtNext
+  deeper v = v .before .before .before .before .before .before .before .before .before .before .before
 
-  abbrev back : AtReturn → State
-  back v = state (v .run .result) (v .run .last .1 .1 .1 .0) (v .run .last .1 .1 .1 .1 .0) (v .run .last .1 .1 .1 .1 .1 .0)
+  abbrev returned : (v : AtReturn) → Below (callAt (deeper v))
+  returned v = record {
+    child = child (deeper v);
+    passes = v .before .before .before .before .before .before .before .before .before .before .if4 .taken;
+    came = state (carried (callAt (deeper v) .listing) (v .run2 .result) (v .run2 .last .1 .1 .1 .1 .1 .1 .0) (v .run2 .last .1 .1 .1 .1 .1 .1 .1 .0)) (v .run2 .last .1 .1 .1 .0) (v .run2 .last .1 .1 .1 .1 .0) (v .run2 .last .1 .1 .1 .1 .1 .0);
+    gave = v .run2 .ensures .0;
+    left = v .run2 .ensures .1;
+    sized = length-unmapped ℤ (v .run2 .result .point) 23 (v .run2 .ok .1 .1 .0 .1 .0 .1);
+  }
 
   -- ---- the needs
-  at-leaf-requires : run-lts.Need-at-leaf-requires (claims t) (run-at t) run.Post run-Inv-loop run-μ-loop
-  at-leaf-requires c κs =
-      let q = asked (c .before .before .before .before .before .before .before) in
-      (q .small, (q .live, (omega (arith, q .listed, q .counted, q .bounded), (q .few, q .shaped))))
+  push-requires : run-lts.Need-push-requires (claims t) (run-at t) run.Post run-Inv-loop run-μ-loop
+  push-requires c κs =
+      let f = c .before .before .before .before .before .before in
+      let b = footed f in
+      let q = asked b in
+      let counts : cond (b .args .listing) (b .args .found .now) 0 ≡ b .args .found .now = ap (λ (x : Bool). cond x (b .args .found .now) 0) (c .before .before .before .before .before .if2 .taken) in
+      (q .small, (sized b, (omega (arith, counts, q .listed, q .counted, q .bounded), (q .few, q .shaped))))
 
   same-length : run-lts.Need-same-length (claims t) (run-at t) run.Post run-Inv-loop run-μ-loop
   same-length c = search needs
@@ -154,11 +256,19 @@ module _ (t : ℕ) where
 
   returns : run-lts.Need-returns (claims t) (run-at t) run.Post run-Inv-loop run-μ-loop
   returns c =
-      let p = c .before .before .before in
-      let f = p .before .before .before in
-      let b = f .before .before .before .before .before in
-      let r = p .at-leaf .ensures in
-      at-foot (call b) (asked b) (f .if1 .taken) (p .at-leaf .result) (p .at-leaf .last .1 .1 .1 .0) (p .at-leaf .last .1 .1 .1 .1 .0) (r .0) (r .1 .0) (r .1 .1 .0) (r .1 .1 .1 .0) (r .1 .1 .1 .1 .0) (r .1 .1 .1 .1 .1)
+      let v = c .before .before .before in
+      let f = v .before .before .before .before .before .before .before in
+      let b = footed f in
+      foot-pushed (call b .table) (call b .target) (b .args .budget) (b .args .depth) (b .args .partial) (b .args .t13) (b .args .found .now) (b .args .rest .now) (b .args .distances .now) (b .args .points .now) (b .args .listing) (b .args .exhausted .now) (v .before .before .before .before .before .before .if2 .taken) (asked b) (f .if1 .taken) (v .push .last .1 .1 .1 .1 .1 .0) (v .push .last .1 .1 .1 .0) (v .push .last .1 .1 .1 .1 .0) (v .push .ensures)
+
+  consider-requires : run-lts.Need-consider-requires (claims t) (run-at t) run.Post run-Inv-loop run-μ-loop
+  consider-requires c κs = asked (footed (c .before .before)) .small
+
+  returns-2 : run-lts.Need-returns-2 (claims t) (run-at t) run.Post run-Inv-loop run-μ-loop
+  returns-2 c =
+      let f = c .before .before .before in
+      let b = footed f in
+      foot-considered (call b .table) (call b .target) (b .args .budget) (b .args .depth) (b .args .partial) (b .args .t13) (b .args .found .now) (b .args .rest .now) (b .args .distances .now) (b .args .points .now) (b .args .listing) (b .args .exhausted .now) (c .before .before .if2 .left) (asked b) (f .if1 .taken) (c .consider .result) (c .consider .last .1 .1 .1 .0) (c .consider .ensures)
 
   sub-level : run-lts.Need-sub-level (claims t) (run-at t) run.Post run-Inv-loop run-μ-loop
   sub-level c = search needs
@@ -168,24 +278,19 @@ module _ (t : ℕ) where
       let q = asked (start (c .before)) in
       (q .small, (q .square, (q .aimed, (q .sized, low (c .before)))))
 
-  enum-known-zigzag : run-lts.Need-enum-known-zigzag (claims t) (run-at t) run.Post run-Inv-loop run-μ-loop
-  enum-known-zigzag c = search needs
+  enum-known-made : run-lts.Need-enum-known-made (claims t) (run-at t) run.Post run-Inv-loop run-μ-loop
+  enum-known-made c = search needs
 
   enum-told : run-lts.Need-enum-told (claims t) (run-at t) run.Post run-Inv-loop run-μ-loop
   enum-told c = search needs
 
-  returns-2 : run-lts.Need-returns-2 (claims t) (run-at t) run.Post run-Inv-loop run-μ-loop
-  returns-2 c =
+  returns-3 : run-lts.Need-returns-3 (claims t) (run-at t) run.Post run-Inv-loop run-μ-loop
+  returns-3 c =
       let m = c .before .before .before .before in
       (closes (level m) (sym (c .enum-told .given .1) ∙ c .before .before .enter .ensures), unchanged (call (start m)) (asked (start m)))
 
-  loop-holds : run-lts.Need-loop-holds (claims t) (run-at t) run.Post run-Inv-loop run-μ-loop
-  loop-holds c =
-      let m = c .before .before .before .before .before in
-      opens (level m) (c .before .zigzag .given .0 .0) (sym (c .before .zigzag .given .1) ∙ c .before .before .before .enter .ensures) (length-unmapped ℤ (start m .args .t11 .point) 23 (start m .good .1 .1 .1 .1 .1 .1 .1 .1 .1 .1 .0 .1 .1 .0 .1 .0 .1))
-
-  next-requires : run-lts.Need-next-requires (claims t) (run-at t) run.Post run-Inv-loop run-μ-loop
-  next-requires c κs = search needs
+  first-requires : run-lts.Need-first-requires (claims t) (run-at t) run.Post run-Inv-loop run-μ-loop
+  first-requires c κs = none-given (level (entered c)) (generator c) (made c)
 
   enum-known-child : run-lts.Need-enum-known-child (claims t) (run-at t) run.Post run-Inv-loop run-μ-loop
   enum-known-child c = search needs
@@ -193,28 +298,30 @@ module _ (t : ℕ) where
   enum-told-2 : run-lts.Need-enum-told-2 (claims t) (run-at t) run.Post run-Inv-loop run-μ-loop
   enum-told-2 c = search needs
 
+  returns-4 : run-lts.Need-returns-4 (claims t) (run-at t) run.Post run-Inv-loop run-μ-loop
+  returns-4 c =
+      let k = c .before .before .before in
+      (ends (opened k) (sym (c .enum-told2 .given .1) ∙ c .before .before .first .ensures), unchanged (call (start (entered k))) (asked (start (entered k))))
+
+  stores-at-requires : run-lts.Need-stores-at-requires (claims t) (run-at t) run.Post run-Inv-loop run-μ-loop
+  stores-at-requires c κs = search needs
+
+  loop-holds : run-lts.Need-loop-holds (claims t) (run-at t) run.Post run-Inv-loop run-μ-loop
+  loop-holds c =
+      let k = c .before .before .before .before .before in
+      record { generator = generator k; going = opened k .going; gives = sym (c .before .before .child .given .1) ∙ c .before .before .before .before .first .ensures }
+
   same-length-3 : run-lts.Need-same-length-3 (claims t) (run-at t) run.Post run-Inv-loop run-μ-loop
   same-length-3 c = search needs
 
   same-length-4 : run-lts.Need-same-length-4 (claims t) (run-at t) run.Post run-Inv-loop run-μ-loop
   same-length-4 c = search needs
 
-  returns-3 : run-lts.Need-returns-3 (claims t) (run-at t) run.Post run-Inv-loop run-μ-loop
-  returns-3 c =
-      let w = c .before .before .before in
-      (ends (turn w) (sym (c .enum-told2 .given .1) ∙ c .before .before .next .ensures), w .loop .inv .promised)
-
-  same-length-5 : run-lts.Need-same-length-5 (claims t) (run-at t) run.Post run-Inv-loop run-μ-loop
-  same-length-5 c = search needs
-
-  same-length-6 : run-lts.Need-same-length-6 (claims t) (run-at t) run.Post run-Inv-loop run-μ-loop
-  same-length-6 c = search needs
-
-  returns-4 : run-lts.Need-returns-4 (claims t) (run-at t) run.Post run-Inv-loop run-μ-loop
-  returns-4 c = (stops (tried (c .before)) (c .if2 .taken), promised-halted (turn (looping (c .before))))
+  returns-5 : run-lts.Need-returns-5 (claims t) (run-at t) run.Post run-Inv-loop run-μ-loop
+  returns-5 c = (stops (tried (c .before)) (c .if3 .taken), promised-halted (tried (c .before) .turn))
 
   add-s : run-lts.Need-add-s (claims t) (run-at t) run.Post run-Inv-loop run-μ-loop
-  add-s c = omega (arith, c .if2 .left, asked (start (above (looping (c .before)))) .bounded)
+  add-s c = omega (arith, c .if3 .left, asked (start (above (c .before))) .bounded)
 
   mul-z : run-lts.Need-mul-z (claims t) (run-at t) run.Post run-Inv-loop run-μ-loop
   mul-z c = omega (arith, in-array c)
@@ -227,7 +334,7 @@ module _ (t : ℕ) where
 
   shared-slice-read-rest : run-lts.Need-shared-slice-read-rest (claims t) (run-at t) run.Post run-Inv-loop run-μ-loop
   shared-slice-read-rest c =
-      let m = above (looping (known (c .before))) in
+      let m = above (looping (c .before)) in
       omega (arith, low m, asked (start m) .aimed)
 
   mul-rest-2 : run-lts.Need-mul-rest-2 (claims t) (run-at t) run.Post run-Inv-loop run-μ-loop
@@ -236,40 +343,119 @@ module _ (t : ℕ) where
   element-write-rest : run-lts.Need-element-write-rest (claims t) (run-at t) run.Post run-Inv-loop run-μ-loop
   element-write-rest c = in-array (c .before .before)
 
-  run-requires : run-lts.Need-run-requires (claims t) (run-at t) run.Post run-Inv-loop run-μ-loop
-  run-requires c κs =
-      let g = c .before .before .before .before .before in
-      let m = above (looping (known g)) in
-      (omega (arith, start m .pre .0, deep m), descends (descent g))
+  next-requires : run-lts.Need-next-requires (claims t) (run-at t) run.Post run-Inv-loop run-μ-loop
+  next-requires c κs =
+      let w = looping (c .before .before) in
+      omega (arith, few-after (tried w), counted (c .before .before) .free, asked (start (above w)) .bounded)
 
-  same-length-7 : run-lts.Need-same-length-7 (claims t) (run-at t) run.Post run-Inv-loop run-μ-loop
-  same-length-7 c =
-      let v = c .before .before .before .before in
-      promised-up (descent (lower v)) (back v) (v .run .ensures .0) (v .run .ensures .1) .distances-length
+  push-requires-2 : run-lts.Need-push-requires-2 (claims t) (run-at t) run.Post run-Inv-loop run-μ-loop
+  push-requires-2 c κs =
+      let k = c .before .before .before .before .before .before .before in
+      let w = looping (marked k) in
+      let r = descends (child k) in
+      let counts : cond (callAt k .listing) (w .loop .found) 0 ≡ w .loop .found = ap (λ (x : Bool). cond x (w .loop .found) 0) (both k (c .before .before .before .before .before .if5 .taken) .0) in
+      (r .small, (struct-sized k, (omega (arith, counts, r .listed, r .counted, r .bounded), (r .few, r .shaped))))
 
-  same-length-8 : run-lts.Need-same-length-8 (claims t) (run-at t) run.Post run-Inv-loop run-μ-loop
-  same-length-8 c =
-      let v = c .before .before .before .before in
-      promised-up (descent (lower v)) (back v) (v .run .ensures .0) (v .run .ensures .1) .points-length
+  enum-known-following : run-lts.Need-enum-known-following (claims t) (run-at t) run.Post run-Inv-loop run-μ-loop
+  enum-known-following c = search needs
 
-  returns-5 : run-lts.Need-returns-5 (claims t) (run-at t) run.Post run-Inv-loop run-μ-loop
-  returns-5 c =
-      let v = c .before .before .before .before in
-      (halts (descent (lower v)) (back v) (v .run .ensures .0) (v .run .ensures .1) (c .if4 .taken), promised-up (descent (lower v)) (back v) (v .run .ensures .0) (v .run .ensures .1))
+  enum-told-3 : run-lts.Need-enum-told-3 (claims t) (run-at t) run.Post run-Inv-loop run-μ-loop
+  enum-told-3 c = search needs
+
+  same-length-5 : run-lts.Need-same-length-5 (claims t) (run-at t) run.Post run-Inv-loop run-μ-loop
+  same-length-5 c = promised-up (stored (c .before .before .before .before .before)) .distances-length
+
+  same-length-6 : run-lts.Need-same-length-6 (claims t) (run-at t) run.Post run-Inv-loop run-μ-loop
+  same-length-6 c = promised-up (stored (c .before .before .before .before .before)) .points-length
+
+  returns-6 : run-lts.Need-returns-6 (claims t) (run-at t) run.Post run-Inv-loop run-μ-loop
+  returns-6 c =
+      let v = c .before .before .before .before .before in
+      (lasts (stored v) (sym (c .enum-told3 .given .1) ∙ beside v .next .ensures), promised-up (stored v))
 
   loop-less : run-lts.Need-loop-less (claims t) (run-at t) run.Post run-Inv-loop run-μ-loop
-  loop-less c = search needs
+  loop-less c = omega (arith, child (beside (c .before .before .before .before .before .before)) .free)
 
   loop-again : run-lts.Need-loop-again (claims t) (run-at t) run.Post run-Inv-loop run-μ-loop
   loop-again c =
+      let v = c .before .before .before .before .before .before in
+      record { generator = child (beside v) .tried .after; going = goes-on (stored v) (looping (marked (beside v)) .loop .inv .going .live); gives = sym (c .before .following .given .1) ∙ beside v .next .ensures }
+
+  enum-known-following-2 : run-lts.Need-enum-known-following-2 (claims t) (run-at t) run.Post run-Inv-loop run-μ-loop
+  enum-known-following-2 c = search needs
+
+  enum-told-4 : run-lts.Need-enum-told-4 (claims t) (run-at t) run.Post run-Inv-loop run-μ-loop
+  enum-told-4 c = search needs
+
+  run-requires : run-lts.Need-run-requires (claims t) (run-at t) run.Post run-Inv-loop run-μ-loop
+  run-requires c κs =
+      let k = c .before .before .before .before .before .before .before .before .before in
+      let m = above (looping (marked k)) in
+      (omega (arith, start m .pre .0, deep m), descends (child k))
+
+  same-length-7 : run-lts.Need-same-length-7 (claims t) (run-at t) run.Post run-Inv-loop run-μ-loop
+  same-length-7 c = promised-up (last (c .before .before .before)) .distances-length
+
+  same-length-8 : run-lts.Need-same-length-8 (claims t) (run-at t) run.Post run-Inv-loop run-μ-loop
+  same-length-8 c = promised-up (last (c .before .before .before)) .points-length
+
+  returns-7 : run-lts.Need-returns-7 (claims t) (run-at t) run.Post run-Inv-loop run-μ-loop
+  returns-7 c =
+      let v = c .before .before .before in
+      (lasts (last v) (sym (v .before .before .before .before .before .before .enum-told4 .given .1) ∙ lower v .next .ensures), promised-up (last v))
+
+  run-requires-2 : run-lts.Need-run-requires-2 (claims t) (run-at t) run.Post run-Inv-loop run-μ-loop
+  run-requires-2 c κs =
+      let k = c .before .before .before .before .before .before .before .before .before .before in
+      let m = above (looping (marked k)) in
+      (omega (arith, start m .pre .0, deep m), descends (child k))
+
+  same-length-9 : run-lts.Need-same-length-9 (claims t) (run-at t) run.Post run-Inv-loop run-μ-loop
+  same-length-9 c = promised-up (returned (c .before .before .before .before)) .distances-length
+
+  same-length-10 : run-lts.Need-same-length-10 (claims t) (run-at t) run.Post run-Inv-loop run-μ-loop
+  same-length-10 c = promised-up (returned (c .before .before .before .before)) .points-length
+
+  returns-8 : run-lts.Need-returns-8 (claims t) (run-at t) run.Post run-Inv-loop run-μ-loop
+  returns-8 c =
       let v = c .before .before .before .before in
-      goes-on (descent (lower v)) (back v) (v .run .ensures .0) (v .run .ensures .1) (c .if4 .left) (length-unmapped ℤ (v .run .result .point) 23 (v .run .ok .1 .1 .0 .1 .0 .1))
+      (halts (returned v) (c .if6 .taken), promised-up (returned v))
 
   loop-less-2 : run-lts.Need-loop-less-2 (claims t) (run-at t) run.Post run-Inv-loop run-μ-loop
-  loop-less-2 c = search needs
+  loop-less-2 c =
+      let v = c .before .before .before .before in
+      omega (arith, child (deeper v) .free, returned v .left .more)
 
   loop-again-2 : run-lts.Need-loop-again-2 (claims t) (run-at t) run.Post run-Inv-loop run-μ-loop
-  loop-again-2 c = prunes (tried (c .before .before .before)) (c .before .before .if2 .left) (c .if3 .left)
+  loop-again-2 c =
+      let v = c .before .before .before .before in
+      record { generator = child (deeper v) .tried .after; going = goes-on (returned v) (c .if6 .left); gives = sym (v .before .before .before .before .before .before .before .following2 .given .1) ∙ deeper v .next .ensures }
+
+  enum-known-following-3 : run-lts.Need-enum-known-following-3 (claims t) (run-at t) run.Post run-Inv-loop run-μ-loop
+  enum-known-following-3 c = search needs
+
+  enum-told-5 : run-lts.Need-enum-told-5 (claims t) (run-at t) run.Post run-Inv-loop run-μ-loop
+  enum-told-5 c = search needs
+
+  same-length-11 : run-lts.Need-same-length-11 (claims t) (run-at t) run.Post run-Inv-loop run-μ-loop
+  same-length-11 c = search needs
+
+  same-length-12 : run-lts.Need-same-length-12 (claims t) (run-at t) run.Post run-Inv-loop run-μ-loop
+  same-length-12 c = search needs
+
+  returns-9 : run-lts.Need-returns-9 (claims t) (run-at t) run.Post run-Inv-loop run-μ-loop
+  returns-9 c =
+      let k = c .before .before .before in
+      let going = prunes (child k) (c .before .before .if4 .left) in
+      (ends (record { at = level (above (looping (marked k))); now = _; generator = _; going = going }) (sym (c .enum-told5 .given .1) ∙ k .next .ensures), going .promised)
+
+  loop-less-3 : run-lts.Need-loop-less-3 (claims t) (run-at t) run.Post run-Inv-loop run-μ-loop
+  loop-less-3 c = omega (arith, child (c .before .before .before .before) .free)
+
+  loop-again-3 : run-lts.Need-loop-again-3 (claims t) (run-at t) run.Post run-Inv-loop run-μ-loop
+  loop-again-3 c =
+      let k = c .before .before .before .before in
+      record { generator = child k .tried .after; going = prunes (child k) (c .before .before .before .if4 .left); gives = sym (c .before .following3 .given .1) ∙ k .next .ensures }
 
 pub +run-spec : {M : Type 1} → statement M
 +run-spec = close μ-run λ t. run-lts.spec (claims t)
@@ -277,25 +463,26 @@ pub +run-spec : {M : Type 1} → statement M
     run.Post
     run-Inv-loop
     run-μ-loop
-    (at-leaf-requires t)
+    (push-requires t)
     (same-length t)
     (same-length-2 t)
     (returns t)
+    (consider-requires t)
+    (returns-2 t)
     (sub-level t)
     (enter-requires t)
-    (enum-known-zigzag t)
+    (enum-known-made t)
     (enum-told t)
-    (returns-2 t)
-    (loop-holds t)
-    (next-requires t)
+    (returns-3 t)
+    (first-requires t)
     (enum-known-child t)
     (enum-told-2 t)
+    (returns-4 t)
+    (stores-at-requires t)
+    (loop-holds t)
     (same-length-3 t)
     (same-length-4 t)
-    (returns-3 t)
-    (same-length-5 t)
-    (same-length-6 t)
-    (returns-4 t)
+    (returns-5 t)
     (add-s t)
     (mul-z t)
     (element-set-from-z t)
@@ -303,11 +490,31 @@ pub +run-spec : {M : Type 1} → statement M
     (shared-slice-read-rest t)
     (mul-rest-2 t)
     (element-write-rest t)
+    (next-requires t)
+    (push-requires-2 t)
+    (enum-known-following t)
+    (enum-told-3 t)
+    (same-length-5 t)
+    (same-length-6 t)
+    (returns-6 t)
+    (loop-less t)
+    (loop-again t)
+    (enum-known-following-2 t)
+    (enum-told-4 t)
     (run-requires t)
     (same-length-7 t)
     (same-length-8 t)
-    (returns-5 t)
-    (loop-less t)
-    (loop-again t)
+    (returns-7 t)
+    (run-requires-2 t)
+    (same-length-9 t)
+    (same-length-10 t)
+    (returns-8 t)
     (loop-less-2 t)
     (loop-again-2 t)
+    (enum-known-following-3 t)
+    (enum-told-5 t)
+    (same-length-11 t)
+    (same-length-12 t)
+    (returns-9 t)
+    (loop-less-3 t)
+    (loop-again-3 t)

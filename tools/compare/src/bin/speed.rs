@@ -8,9 +8,11 @@ use oracle::enumerate::EnumerationScratch;
 use std::hint::black_box;
 use std::time::Instant;
 
-/// Turns in a row of the table, and about how long each side takes in one of them.
-const TURNS: usize = 9;
-const SECONDS: f64 = 0.4;
+/// About how long each side takes in a turn, and both in a row of the table. Many short turns: a side's fastest one is then
+/// likely to fall into a quiet moment of the machine.
+const TURN: f64 = 0.05;
+const ROW: f64 = 10.0;
+const FEWEST_TURNS: usize = 9;
 
 /// A pass over a row's inputs opens this many nodes, or has the most inputs; it has the fewest in any case.
 const NODES: u64 = 2_000_000;
@@ -52,8 +54,10 @@ fn in_turns(expected: u64, sides: [&mut dyn FnMut() -> u64; 2]) -> [Times; 2] {
     let mut turns = [Vec::new(), Vec::new()];
     let start = Instant::now();
     sides[0]();
-    let passes = (SECONDS / start.elapsed().as_secs_f64()).ceil() as u32;
-    for turn in 0..TURNS {
+    let pass = start.elapsed().as_secs_f64();
+    let passes = (TURN / pass).ceil() as u32;
+    let count = (ROW / (2.0 * pass * f64::from(passes))) as usize;
+    for turn in 0..count.max(FEWEST_TURNS) {
         // Who goes first changes, so that a slow stretch of the machine does not fall on one side.
         for side in [turn % 2, 1 - turn % 2] {
             let start = Instant::now();
@@ -130,15 +134,15 @@ fn radius_of(input: &Input, points: usize, scratch: &mut EnumerationScratch) -> 
     high
 }
 
-fn time_list(n: usize, points: usize) {
+fn time_list(n: usize, points: usize, places: usize) {
     let scratch = &mut EnumerationScratch::new();
     let mut inputs: Vec<Input> = (0..10).map(|k| input(Call::List, n, k)).collect();
     for input in &mut inputs {
         input.case.radius = radius_of(input, points, scratch);
-        input.case = input.case.clone().with_places(4096);
+        input.case = input.case.clone().with_places(places);
         assert_same(&input.case);
     }
-    let (mut distances, mut integers) = (vec![0.0; 4096], vec![0; 4096 * n]);
+    let (mut distances, mut integers) = (vec![0.0; places], vec![0; places * n]);
     let nodes = |i: &Input| compare::paper::opened(&i.case, i.case.radius, AMPLE).unwrap();
     let opened: u64 = inputs.iter().map(nodes).sum();
     let mut rust = || inputs.iter().map(|i| rust_list(i, i.case.radius, scratch) as u64).sum();
@@ -146,7 +150,7 @@ fn time_list(n: usize, points: usize) {
     let mut port = || inputs.iter().map(|i| port::list(&i.case, &mut distances, &mut integers).second).sum();
     let times = in_turns(found, [&mut rust, &mut port]);
     let calls = inputs.len() as u64;
-    let size = format!("{} points, {} nodes a call", found / calls, opened / calls);
+    let size = format!("{} points in {places} places, {} nodes a call", found / calls, opened / calls);
     print(&format!("list, n = {n}, µs a call"), inputs.len(), &size, calls as f64 * 1e3, times);
 }
 
@@ -156,7 +160,9 @@ fn main() {
     for n in [8, 12, 16, 20, 23] {
         time_ml(n);
     }
-    for (n, points) in [(8, 256), (8, 4000), (16, 256), (16, 4000)] {
-        time_list(n, points);
+    for n in [8, 16] {
+        for (points, places) in [(256, 256), (256, 4096), (4000, 4096)] {
+            time_list(n, points, places);
+        }
     }
 }
