@@ -7,5 +7,4 @@ pub mod Doubles
 pub mod Found
 pub mod Ordering
 pub mod Endings
-pub mod Repeats
 pub mod Buffers

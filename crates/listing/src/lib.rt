@@ -273,6 +273,46 @@ fn list_into(
     }
 }
 
+// `list_into` with as much of longer arrays as there are places.
+fn list_within(
+    weights: &[f64],
+    mu: &[f64],
+    target: &[f64],
+    measured: &mut [f64],
+    vectors: &mut [i64],
+    order: &mut [usize],
+    spare: &mut [usize],
+    distances: &mut [f64],
+    points: &mut [i64],
+    radius: f64,
+    budget: u64,
+) -> ListAnswer
+    requires { ⌜ C.listChecks (table (now weights) (now mu)) (now target) (now distances) (now points) radius budget ≡ pass ⌝ }
+    requires { ⌜ length (now distances) ≤ length (now measured) ⌝ }
+    requires { ⌜ length (now points) ≤ length (now vectors) ⌝ }
+    requires { ⌜ length (now distances) ≤ length (now order) ⌝ }
+    requires { ⌜ length (now distances) ≤ length (now spare) ⌝ }
+    ensures { λ r. ⌜ answerOf r ≡ countsOf (C.list (table (now (weights .entry)) (now (mu .entry))) (now (target .entry)) (now (distances .entry)) (now (points .entry)) radius budget) ⌝ }
+    ensures { λ r. ⌜ now (distances .exit) ≡ C.listDistances (C.list (table (now (weights .entry)) (now (mu .entry))) (now (target .entry)) (now (distances .entry)) (now (points .entry)) radius budget) (now (distances .entry)) ⌝ }
+    ensures { λ r. ⌜ now (points .exit) ≡ C.listPoints (C.list (table (now (weights .entry)) (now (mu .entry))) (now (target .entry)) (now (distances .entry)) (now (points .entry)) radius budget) (now (points .entry)) ⌝ }
+{
+    let places = distances.len();
+    let size = points.len();
+    list_into(
+        weights,
+        mu,
+        target,
+        &mut measured[..places],
+        &mut vectors[..size],
+        &mut order[..places],
+        &mut spare[..places],
+        distances,
+        points,
+        radius,
+        budget,
+    )
+}
+
 // `list` once its checks have passed, with arrays for all 4,096 places.
 fn list_long(
     weights: &[f64],
@@ -288,20 +328,18 @@ fn list_long(
     ensures { λ r. ⌜ now (distances .exit) ≡ C.listDistances (C.list (table (now (weights .entry)) (now (mu .entry))) (now (target .entry)) (now (distances .entry)) (now (points .entry)) radius budget) (now (distances .entry)) ⌝ }
     ensures { λ r. ⌜ now (points .exit) ≡ C.listPoints (C.list (table (now (weights .entry)) (now (mu .entry))) (now (target .entry)) (now (distances .entry)) (now (points .entry)) radius budget) (now (points .entry)) ⌝ }
 {
-    let places = distances.len();
-    let size = points.len();
     let mut measured = [0.0; 4096];
     let mut vectors = [0i64; 94208];
     let mut order = [0usize; 4096];
     let mut spare = [0usize; 4096];
-    list_into(
+    list_within(
         weights,
         mu,
         target,
-        &mut measured[..places],
-        &mut vectors[..size],
-        &mut order[..places],
-        &mut spare[..places],
+        &mut measured,
+        &mut vectors,
+        &mut order,
+        &mut spare,
         distances,
         points,
         radius,
@@ -325,20 +363,18 @@ fn list_short(
     ensures { λ r. ⌜ now (distances .exit) ≡ C.listDistances (C.list (table (now (weights .entry)) (now (mu .entry))) (now (target .entry)) (now (distances .entry)) (now (points .entry)) radius budget) (now (distances .entry)) ⌝ }
     ensures { λ r. ⌜ now (points .exit) ≡ C.listPoints (C.list (table (now (weights .entry)) (now (mu .entry))) (now (target .entry)) (now (distances .entry)) (now (points .entry)) radius budget) (now (points .entry)) ⌝ }
 {
-    let places = distances.len();
-    let size = points.len();
     let mut measured = [0.0; 256];
     let mut vectors = [0i64; 5888];
     let mut order = [0usize; 256];
     let mut spare = [0usize; 256];
-    list_into(
+    list_within(
         weights,
         mu,
         target,
-        &mut measured[..places],
-        &mut vectors[..size],
-        &mut order[..places],
-        &mut spare[..places],
+        &mut measured,
+        &mut vectors,
+        &mut order,
+        &mut spare,
         distances,
         points,
         radius,

@@ -1,54 +1,30 @@
--- `list_long` meets its contract: after a pass it hands on arrays that every passed list fits. Assumes nothing.
-use mathlib.Core.Path.{sym}
-use Prim.Native.Nat.{_≤_}
-use lib.ListN.{length}
-use borrow.Author.Needs.{needs}
+-- `list_long` meets its contract: its arrays are long enough for every list that passes. Assumes nothing.
 use Rattle.definitions.specs.Table.{table}
 use Rattle.definitions.proofs.Passed.{list-passed}
-use Rattle.listing.proofs.Repeats.{repeat-prefix}
 use Rattle.listing.proofs.Buffers.{points-fit}
+use borrow.Author.Needs.{needs}
 use Rattle.listing.proofs.list_long.Statement.{statement}
 use Rattle.listing.proofs.list_long.Tie as tie
 
-few : (b : tie.Start) → length (b .args .distances .now) ≤ 4096
-few b =
-    let a = b .args in
-    list-passed (table (a .weights .now) (a .mu .now)) (a .target .now) (a .distances .now) (a .points .now) (a .radius) (a .budget) (b .pre) .places
+slice-aggregate-list-within : tie.Need-slice-aggregate-list-within
+slice-aggregate-list-within c = search needs
 
-fit : (b : tie.Start) → length (b .args .points .now) ≤ 94208
-fit b =
-    let a = b .args in
-    points-fit 4096 (table (a .weights .now) (a .mu .now)) (a .target .now) (a .distances .now) (a .points .now) (a .radius) (a .budget) (b .pre) (few b)
+slice-aggregate-list-within-2 : tie.Need-slice-aggregate-list-within-2
+slice-aggregate-list-within-2 c = search needs
 
-array-borrow-prefix-measured : tie.Need-array-borrow-prefix-measured
-array-borrow-prefix-measured c = few (c .before .before .before .before)
+slice-aggregate-list-within-3 : tie.Need-slice-aggregate-list-within-3
+slice-aggregate-list-within-3 c = search needs
 
-slice-aggregate-list-into : tie.Need-slice-aggregate-list-into
-slice-aggregate-list-into c = sym (repeat-prefix 4096 _ _ (few (c .before .before .before .before .before)))
+slice-aggregate-list-within-4 : tie.Need-slice-aggregate-list-within-4
+slice-aggregate-list-within-4 c = search needs
 
-array-borrow-prefix-vectors : tie.Need-array-borrow-prefix-vectors
-array-borrow-prefix-vectors c = fit (c .before .before .before .before .before)
-
-slice-aggregate-list-into-2 : tie.Need-slice-aggregate-list-into-2
-slice-aggregate-list-into-2 c = sym (repeat-prefix 94208 _ _ (fit (c .before .before .before .before .before .before)))
-
-array-borrow-prefix-order : tie.Need-array-borrow-prefix-order
-array-borrow-prefix-order c = few (c .before .before .before .before .before .before)
-
-slice-aggregate-list-into-3 : tie.Need-slice-aggregate-list-into-3
-slice-aggregate-list-into-3 c = sym (repeat-prefix 4096 _ _ (few (c .before .before .before .before .before .before .before)))
-
-array-borrow-prefix-spare : tie.Need-array-borrow-prefix-spare
-array-borrow-prefix-spare c = few (c .before .before .before .before .before .before .before)
-
-slice-aggregate-list-into-4 : tie.Need-slice-aggregate-list-into-4
-slice-aggregate-list-into-4 c = sym (repeat-prefix 4096 _ _ (few (c .before .before .before .before .before .before .before .before)))
-
-list-into-requires : tie.Need-list-into-requires
-list-into-requires c κs =
+list-within-requires : tie.Need-list-within-requires
+list-within-requires c κs =
     let b = c .before .before .before .before .before .before .before .before .before .before in
-    let h = few b in
-    (b .pre, (repeat-prefix 4096 _ _ h, (repeat-prefix 94208 _ _ (fit b), (repeat-prefix 4096 _ _ h, repeat-prefix 4096 _ _ h))))
+    let a = b .args in
+    let few = list-passed (table (a .weights .now) (a .mu .now)) (a .target .now) (a .distances .now) (a .points .now) (a .radius) (a .budget) (b .pre) .places in
+    let fit = points-fit 4096 (table (a .weights .now) (a .mu .now)) (a .target .now) (a .distances .now) (a .points .now) (a .radius) (a .budget) (b .pre) few in
+    (b .pre, (few, (fit, (few, few))))
 
 same-length : tie.Need-same-length
 same-length c = search needs
@@ -63,15 +39,11 @@ pub list-long-spec : {M : Type 1} → statement M
 list-long-spec =
     tie.close
     (tie.spec
-    array-borrow-prefix-measured
-    slice-aggregate-list-into
-    array-borrow-prefix-vectors
-    slice-aggregate-list-into-2
-    array-borrow-prefix-order
-    slice-aggregate-list-into-3
-    array-borrow-prefix-spare
-    slice-aggregate-list-into-4
-    list-into-requires
+    slice-aggregate-list-within
+    slice-aggregate-list-within-2
+    slice-aggregate-list-within-3
+    slice-aggregate-list-within-4
+    list-within-requires
     same-length
     same-length-2
     returns)

@@ -1,48 +1,29 @@
--- `list_short` meets its contract: after a pass it hands on arrays that 256 places fit. Assumes nothing.
-use mathlib.Core.Path.{sym}
-use Prim.Native.Nat.{_≤_}
-use lib.ListN.{length}
-use borrow.Author.Needs.{needs}
+-- `list_short` meets its contract: after a pass its arrays are long enough for at most 256 places. Assumes nothing.
 use Rattle.definitions.specs.Table.{table}
-use Rattle.listing.proofs.Repeats.{repeat-prefix}
 use Rattle.listing.proofs.Buffers.{points-fit}
+use borrow.Author.Needs.{needs}
 use Rattle.listing.proofs.list_short.Statement.{statement}
 use Rattle.listing.proofs.list_short.Tie as tie
 
-fit : (b : tie.Start) → length (b .args .points .now) ≤ 5888
-fit b =
-    let a = b .args in
-    points-fit 256 (table (a .weights .now) (a .mu .now)) (a .target .now) (a .distances .now) (a .points .now) (a .radius) (a .budget) (b .pre .0) (b .pre .1)
+slice-aggregate-list-within : tie.Need-slice-aggregate-list-within
+slice-aggregate-list-within c = search needs
 
-array-borrow-prefix-measured : tie.Need-array-borrow-prefix-measured
-array-borrow-prefix-measured c = search needs
+slice-aggregate-list-within-2 : tie.Need-slice-aggregate-list-within-2
+slice-aggregate-list-within-2 c = search needs
 
-slice-aggregate-list-into : tie.Need-slice-aggregate-list-into
-slice-aggregate-list-into c = sym (repeat-prefix 256 _ _ (c .before .before .before .before .before .pre .1))
+slice-aggregate-list-within-3 : tie.Need-slice-aggregate-list-within-3
+slice-aggregate-list-within-3 c = search needs
 
-array-borrow-prefix-vectors : tie.Need-array-borrow-prefix-vectors
-array-borrow-prefix-vectors c = fit (c .before .before .before .before .before)
+slice-aggregate-list-within-4 : tie.Need-slice-aggregate-list-within-4
+slice-aggregate-list-within-4 c = search needs
 
-slice-aggregate-list-into-2 : tie.Need-slice-aggregate-list-into-2
-slice-aggregate-list-into-2 c = sym (repeat-prefix 5888 _ _ (fit (c .before .before .before .before .before .before)))
-
-array-borrow-prefix-order : tie.Need-array-borrow-prefix-order
-array-borrow-prefix-order c = search needs
-
-slice-aggregate-list-into-3 : tie.Need-slice-aggregate-list-into-3
-slice-aggregate-list-into-3 c = sym (repeat-prefix 256 _ _ (c .before .before .before .before .before .before .before .pre .1))
-
-array-borrow-prefix-spare : tie.Need-array-borrow-prefix-spare
-array-borrow-prefix-spare c = search needs
-
-slice-aggregate-list-into-4 : tie.Need-slice-aggregate-list-into-4
-slice-aggregate-list-into-4 c = sym (repeat-prefix 256 _ _ (c .before .before .before .before .before .before .before .before .pre .1))
-
-list-into-requires : tie.Need-list-into-requires
-list-into-requires c κs =
+list-within-requires : tie.Need-list-within-requires
+list-within-requires c κs =
     let b = c .before .before .before .before .before .before .before .before .before .before in
-    let h = b .pre .1 in
-    (b .pre .0, (repeat-prefix 256 _ _ h, (repeat-prefix 5888 _ _ (fit b), (repeat-prefix 256 _ _ h, repeat-prefix 256 _ _ h))))
+    let a = b .args in
+    let few = b .pre .1 in
+    let fit = points-fit 256 (table (a .weights .now) (a .mu .now)) (a .target .now) (a .distances .now) (a .points .now) (a .radius) (a .budget) (b .pre .0) few in
+    (b .pre .0, (few, (fit, (few, few))))
 
 same-length : tie.Need-same-length
 same-length c = search needs
@@ -57,15 +38,11 @@ pub list-short-spec : {M : Type 1} → statement M
 list-short-spec =
     tie.close
     (tie.spec
-    array-borrow-prefix-measured
-    slice-aggregate-list-into
-    array-borrow-prefix-vectors
-    slice-aggregate-list-into-2
-    array-borrow-prefix-order
-    slice-aggregate-list-into-3
-    array-borrow-prefix-spare
-    slice-aggregate-list-into-4
-    list-into-requires
+    slice-aggregate-list-within
+    slice-aggregate-list-within-2
+    slice-aggregate-list-within-3
+    slice-aggregate-list-within-4
+    list-within-requires
     same-length
     same-length-2
     returns)
