@@ -4,3 +4,4 @@ pub mod Lines
 pub mod Lists
 pub mod Starts
 pub mod Room
+pub mod Repeats

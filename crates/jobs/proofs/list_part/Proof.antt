@@ -5,7 +5,7 @@ use native.Mathlib.Nat.{mul-le-mul-right}
 use lib.ListN.{length, replicate}
 use lib.IntN.{pos}
 use Rattle.rounding.proofs.Constants.{zero-is}
-use Rattle.listing.proofs.Repeats.{repeat-prefix}
+use Rattle.jobs.proofs.Repeats.{repeat-prefix}
 use Rattle.reading.proofs.Rows.{take-replicate}
 use borrow.Author.Needs.{needs}
 use Rattle.jobs.proofs.list_part.Statement.{statement}

@@ -2,7 +2,7 @@
 use mathlib.Core.Path.{sym}
 use lib.ListN.{length}
 use lib.IntN.{pos}
-use Rattle.listing.proofs.Repeats.{repeat-prefix}
+use Rattle.jobs.proofs.Repeats.{repeat-prefix}
 use Rattle.reading.proofs.Rows.{take-replicate}
 use borrow.Author.Needs.{needs}
 use Rattle.jobs.proofs.nearest_part.Statement.{statement}
