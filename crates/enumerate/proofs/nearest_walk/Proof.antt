@@ -77,10 +77,14 @@ returns-2 c =
     let e = is-outside (length (a .weights .now)) (end v) (D v) (P v) (walk v) (walked v) (c .before .if1 .left) (le-ltb 0 (v .run .last .1 .1 .1 .1 .1 .1 .0) (omega (arith, c .if2 .taken))) in
     (sym e, sym (ap (λ (x : Walked Best). outputOf x (a .out .now)) e))
 
+-- either array is long enough: which of them is copied is said by `returns-3`
 copy-out-requires : tie.Need-copy-out-requires
 copy-out-requires c κs =
     let v = c .before .before .before .before .before .before .before in
-    (omega (arith, start v .pre .0, start v .pre .1 .1 .1 .0), length-unmapped ℤ (v .run .result .best) 23 (v .run .ok .1 .1 .1 .0 .1 .0 .1))
+    let r = v .run .result in
+    let point : length (r .point) ≡ 23 = length-unmapped ℤ (r .point) 23 (v .run .ok .1 .1 .0 .1 .0 .1) in
+    let best : length (r .best) ≡ 23 = length-unmapped ℤ (r .best) 23 (v .run .ok .1 .1 .1 .0 .1 .0 .1) in
+    (omega (arith, start v .pre .0, start v .pre .1 .1 .1 .0), search (point, best))
 
 same-length : tie.Need-same-length
 same-length c = search needs
