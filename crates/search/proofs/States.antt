@@ -1,12 +1,10 @@
 -- What a call of `run` starts from and what it changes, as the definitions see it; and the call at the walk's foot. Assumes nothing.
 use mathlib.Core.Path.{_≡_, refl, ap, sym, _∙_}
-use mathlib.Core.Bool.{Bool, true, false, cond, true≢false}
+use mathlib.Core.Bool.{Bool, true, false, true≢false}
 use mathlib.Core.List.{List}
 use Prim.Native.Nat.{ℕ, _+_, _≤_}
 use native.Mathlib.Omega.{arith}
-use lib.Dec.{eqb}
 use lib.IntN.{ℤ}
-use borrow.Author.Tests.{eqb-true}
 use lib.ListN.{length, set, take}
 use lib.Ieee.{Float}
 use Rattle.definitions.specs.Table.{Table, dimension}
@@ -154,8 +152,3 @@ module _ (t : Table) (target : List Float) (budget depth : ℕ) (partial : Float
   foot-considered false false e ready z s′ found′ p = at-foot (callOf false false) ready z (carried false s′ found′ false) distances points (p .seen-as distances points) (p .point) (p .nodes) (omega arith) refl refl
   foot-considered false true e ready z s′ found′ p = absurd (true≢false (ready .live))
   foot-considered true spent e ready z s′ found′ p = absurd (true≢false e)
-
--- a level whose children are leaves of `list`
-pub stores-both : (listing : Bool) (l : ℕ) → cond listing (eqb l 0) false ≡ true → (listing ≡ true) × (l ≡ 0)
-stores-both true l e = (refl, eqb-true l 0 e)
-stores-both false l e = absurd (true≢false (sym e))

@@ -1,13 +1,9 @@
 // The recursive walk of nearest and of list. They differ in what a leaf does, which a flag chooses.
 ghost use mathlib.Core.Path.{_≡_};
-ghost use mathlib.Core.Bool.{true, false, cond};
-ghost use lib.Dec.{eqb};
-ghost use mathlib.Core.List.{List};
 ghost use Prim.Native.Nat.{_*_, _≤_, _<_, _^_, _+_};
 ghost use lib.ListN.{length, take, getD};
 ghost use lib.Seq.{paste};
-ghost use lib.IntN.{ℤ};
-ghost use lib.Ieee.{Float, nan};
+ghost use lib.Ieee.{nan};
 ghost use Rattle.definitions.specs.Table.{table, coordinate};
 ghost use Rattle.definitions.specs.Nearest.{lexicographic};
 ghost use Rattle.definitions.specs.Seeds.{alongFrom};
@@ -123,16 +119,6 @@ fn push(
     write(point, n, at * n, points);
 }
 
-// Whether a level's children are leaves of list, which need no call.
-fn stores_at(listing: bool, level: usize) -> bool
-    ensures { λ r. ⌜ r ≡ cond listing (eqb level 0) false ⌝ }
-{
-    if listing {
-        return level == 0;
-    }
-    false
-}
-
 // A level's generator: its centre comes from the residuals above it.
 fn enter(
     mu: &[f64],
@@ -193,7 +179,6 @@ pub fn run(
     let Child::At(mut child, mut zigzag) = made.first() else {
         return s;
     };
-    let storing = stores_at(listing, level);
     loop {
         if s.nodes >= budget {
             *exhausted = true;
@@ -206,15 +191,6 @@ pub fn run(
         rest[level] = target[level] - child.value;
         let following = zigzag.next();
         if sum <= s.radius {
-            if storing {
-                push(&s.point, weights.len(), sum, distances, points, found);
-                let Child::At(trial, after) = following else {
-                    return s;
-                };
-                child = trial;
-                zigzag = after;
-                continue;
-            }
             let Child::At(trial, after) = following else {
                 return run(
                     mu,

@@ -1,7 +1,7 @@
 -- `run` walks as the definition does. It ends by its depth, and its loop by what the budget leaves. The loop keeps `Holding`; each exit and each turn is a law of
 -- `States` or `Going`, at what is known where it stands. Assumes nothing.
 use mathlib.Core.Path.{_≡_, ap, sym, _∙_}
-use mathlib.Core.Bool.{Bool, true, cond}
+use mathlib.Core.Bool.{Bool, cond}
 use Prim.Native.Nat.{ℕ, _<_, _+_, _-_}
 use native.Mathlib.Omega.{arith}
 use borrow.Author.Needs.{needs, length-unmapped}
@@ -11,15 +11,14 @@ use mir.Syntax.{w64}
 use mir.Val.{toZ, ofZ}
 use mir.ValLaws.{toZ-ofZ}
 use lib.IntN.{ℤ}
-use lib.ListN.{length, set, length-set}
+use lib.ListN.{length, set}
 use Rattle.definitions.specs.Table.{table}
 use Rattle.children.specs.declared.Children.{Children}
 use Rattle.children.specs.declared.Level.the-variants.{Open}
 use Rattle.children.specs.View.{levelOf}
 use Rattle.search.specs.View.{carried}
-use Rattle.search.specs.declared.RecursiveSearch.{RecursiveSearch}
-use Rattle.search.proofs.States.{state, Call, Asks, unchanged, foot-pushed, foot-considered, stores-both}
-use Rattle.search.proofs.Going.{Going, Holding, Level, begins, summed, closes, none-given, opens, Turn, ends, promised-halted, Tried, few-after, sum, stops, Counted, lower-rest, prunes, descends, Below, halts, promised-up, goes-on, lasts}
+use Rattle.search.proofs.States.{state, Call, Asks, unchanged, foot-pushed, foot-considered}
+use Rattle.search.proofs.Going.{Holding, Level, begins, summed, closes, none-given, opens, Turn, ends, promised-halted, Tried, few-after, stops, Counted, prunes, descends, Below, halts, promised-up, goes-on, lasts}
 use Rattle.search.proofs.run.Reads as run
 use Rattle.search.proofs.run.Kinds as run-kinds
 use Rattle.search.proofs.+run.Lts-run as run-lts
@@ -28,7 +27,6 @@ use Rattle.children.proofs.Children.next.Reads as next-reads
 use Rattle.search.proofs.consider.Reads as consider-reads
 use Rattle.search.proofs.enter.Reads as enter-reads
 use Rattle.search.proofs.push.Reads as push-reads
-use Rattle.search.proofs.stores_at.Reads as stores-at-reads
 use Rattle.search.proofs.+run.{statement}
 use Rattle.search.proofs.+run.Tie.{close}
 
@@ -42,10 +40,10 @@ abbrev run-below : ℕ → In 8 run-kinds.ps
 run-below t = and 8 run-kinds.ps (falls 8 run-kinds.ps _<_ μ-run t) run.Pre
 
 abbrev claims : ℕ → run-lts.Claims
-claims t = (push-reads.Asked, push-reads.Learnt, consider-reads.Asked, consider-reads.Learnt, enter-reads.Asked, enter-reads.Learnt, first-reads.Asked, first-reads.Learnt, stores-at-reads.Asked, stores-at-reads.Learnt, next-reads.Asked, next-reads.Learnt, run-below t, run.Post)
+claims t = (push-reads.Asked, push-reads.Learnt, consider-reads.Asked, consider-reads.Learnt, enter-reads.Asked, enter-reads.Learnt, first-reads.Asked, first-reads.Learnt, next-reads.Asked, next-reads.Learnt, run-below t, run.Post)
 
 abbrev run-Inv-loop : run-lts.InvT-loop
-run-Inv-loop mu weights target rest₀ distances₀ points₀ found₀ exhausted₀ listing budget depth partial s₀ level child₀ zigzag₀ storing rest distances points found exhausted s child zigzag =
+run-Inv-loop mu weights target rest₀ distances₀ points₀ found₀ exhausted₀ listing budget depth partial s₀ level child₀ zigzag₀ rest distances points found exhausted s child zigzag =
     Holding
     (record { listing = listing; table = table weights mu; target = target; budget = budget; depth = depth; partial = partial; from = state (carried listing s₀ found₀ exhausted₀) rest₀ distances₀ points₀ })
     level
@@ -54,11 +52,11 @@ run-Inv-loop mu weights target rest₀ distances₀ points₀ found₀ exhausted
     zigzag
 
 abbrev run-μ-loop : run-lts.MeasureT-loop
-run-μ-loop mu weights target rest₀ distances₀ points₀ found₀ exhausted₀ listing budget depth partial s₀ level child₀ zigzag₀ storing rest distances points found exhausted s child zigzag = budget - s .nodes
+run-μ-loop mu weights target rest₀ distances₀ points₀ found₀ exhausted₀ listing budget depth partial s₀ level child₀ zigzag₀ rest distances points found exhausted s child zigzag = budget - s .nodes
 
 module _ (t : ℕ) where
-  -- ---- places of the code: the start; at the foot and above it; at an open level; in the loop; with the child set; with the next one known; with a leaf of the
-  -- list stored; back from the last child, and from another
+  -- ---- places of the code: the start; at the foot and above it; at an open level; in the loop; with the child set; with the next one
+  -- known; back from the last child, and from another
   abbrev AtStart : Type 0
   AtStart = run-lts.Start (claims t) (run-at t) run.Post run-Inv-loop run-μ-loop
 
@@ -79,9 +77,6 @@ module _ (t : ℕ) where
 
   abbrev AtNext : Type 0
   AtNext = run-lts.After-next (claims t) (run-at t) run.Post run-Inv-loop run-μ-loop
-
-  abbrev AtStored : Type 0
-  AtStored = run-lts.After-push2 (claims t) (run-at t) run.Post run-Inv-loop run-μ-loop
 
   abbrev AtLast : Type 0
   AtLast = run-lts.After-run (claims t) (run-at t) run.Post run-Inv-loop run-μ-loop
@@ -138,7 +133,7 @@ module _ (t : ℕ) where
 
   -- in the loop
   abbrev above : AtLoop → AtLevel
-  above w = entered (w .before .before .before .before .before .before)
+  above w = entered (w .before .before .before .before .before)
 
   abbrev tried : (w : AtLoop) → Tried (call (start (above w)))
   tried w = record {
@@ -182,44 +177,14 @@ module _ (t : ℕ) where
   abbrev child : (k : AtNext) → Counted (callAt k)
   child k = counted (marked k)
 
-  -- a leaf of the list: both what `stores_at` asks for
-  both : (k : AtNext) → looping (marked k) .before .stores-at .result ≡ true → (callAt k .listing ≡ true) × (at k ≡ 0)
-  both k e = stores-both _ _ (sym (looping (marked k) .before .stores-at .ensures) ∙ e)
-
-  -- the struct with the child set
-  abbrev struct : AtNext → RecursiveSearch
-  struct k = let s = looping (marked k) .loop .s in record { point = set (s .point) (at k) (child k .stored); best = s .best; radius = s .radius; nodes = s .nodes + 1 }
-
-  struct-sized : (k : AtNext) → length (struct k .point) ≡ 23
-  struct-sized k = let w = looping (marked k) in length-set (w .loop .s .point) (at k) (child k .stored) ∙ w .loop .inv .going .sized
-
-  abbrev beside : AtStored → AtNext
-  beside v = v .before .before .before .before .before .before .before .before
-
-  abbrev stored : (v : AtStored) → Below (callAt (beside v))
-  stored v =
-      let k = beside v in
-      let w = looping (marked k) in
-      let q = callAt k in
-      let h = both k (v .before .before .before .before .before .before .if5 .taken) in
-      let leaf = foot-pushed (q .table) (q .target) (q .budget) (at k) (sum (tried w)) (struct k) (w .loop .found) (lower-rest (child k)) (w .loop .distances) (w .loop .points) (q .listing) (w .loop .exhausted) (h .0) (descends (child k)) (h .1) (v .push2 .last .1 .1 .1 .1 .1 .0) (v .push2 .last .1 .1 .1 .0) (v .push2 .last .1 .1 .1 .1 .0) (v .push2 .ensures) in
-      record {
-        child = child k;
-        passes = v .before .before .before .before .before .before .before .if4 .taken;
-        came = state (carried (q .listing) (struct k) (v .push2 .last .1 .1 .1 .1 .1 .0) (w .loop .exhausted)) (lower-rest (child k)) (v .push2 .last .1 .1 .1 .0) (v .push2 .last .1 .1 .1 .1 .0);
-        gave = leaf .0;
-        left = leaf .1;
-        sized = struct-sized k;
-      }
-
   -- back from the last child, and from another
   abbrev lower : AtLast → AtNext
-  lower v = v .before .before .before .before .before .before .before .before .before .before
+  lower v = v .before .before .before .before .before .before .before .before .before
 
   abbrev last : (v : AtLast) → Below (callAt (lower v))
   last v = record {
     child = child (lower v);
-    passes = v .before .before .before .before .before .before .before .before .before .if4 .taken;
+    passes = v .before .before .before .before .before .before .before .before .if4 .taken;
     came = state (carried (callAt (lower v) .listing) (v .run .result) (v .run .last .1 .1 .1 .1 .1 .1 .0) (v .run .last .1 .1 .1 .1 .1 .1 .1 .0)) (v .run .last .1 .1 .1 .0) (v .run .last .1 .1 .1 .1 .0) (v .run .last .1 .1 .1 .1 .1 .0);
     gave = v .run .ensures .0;
     left = v .run .ensures .1;
@@ -227,12 +192,12 @@ module _ (t : ℕ) where
   }
 
   abbrev deeper : AtReturn → AtNext
-  deeper v = v .before .before .before .before .before .before .before .before .before .before .before
+  deeper v = v .before .before .before .before .before .before .before .before .before .before
 
   abbrev returned : (v : AtReturn) → Below (callAt (deeper v))
   returned v = record {
     child = child (deeper v);
-    passes = v .before .before .before .before .before .before .before .before .before .before .if4 .taken;
+    passes = v .before .before .before .before .before .before .before .before .before .if4 .taken;
     came = state (carried (callAt (deeper v) .listing) (v .run2 .result) (v .run2 .last .1 .1 .1 .1 .1 .1 .0) (v .run2 .last .1 .1 .1 .1 .1 .1 .1 .0)) (v .run2 .last .1 .1 .1 .0) (v .run2 .last .1 .1 .1 .1 .0) (v .run2 .last .1 .1 .1 .1 .1 .0);
     gave = v .run2 .ensures .0;
     left = v .run2 .ensures .1;
@@ -303,13 +268,10 @@ module _ (t : ℕ) where
       let k = c .before .before .before in
       (ends (opened k) (sym (c .enum-told2 .given .1) ∙ c .before .before .first .ensures), unchanged (call (start (entered k))) (asked (start (entered k))))
 
-  stores-at-requires : run-lts.Need-stores-at-requires (claims t) (run-at t) run.Post run-Inv-loop run-μ-loop
-  stores-at-requires c κs = search needs
-
   loop-holds : run-lts.Need-loop-holds (claims t) (run-at t) run.Post run-Inv-loop run-μ-loop
   loop-holds c =
-      let k = c .before .before .before .before .before in
-      record { generator = generator k; going = opened k .going; gives = sym (c .before .before .child .given .1) ∙ c .before .before .before .before .first .ensures }
+      let k = c .before .before .before .before in
+      record { generator = generator k; going = opened k .going; gives = sym (c .before .child .given .1) ∙ c .before .before .before .first .ensures }
 
   same-length-3 : run-lts.Need-same-length-3 (claims t) (run-at t) run.Post run-Inv-loop run-μ-loop
   same-length-3 c = search needs
@@ -348,38 +310,55 @@ module _ (t : ℕ) where
       let w = looping (c .before .before) in
       omega (arith, few-after (tried w), counted (c .before .before) .free, asked (start (above w)) .bounded)
 
-  push-requires-2 : run-lts.Need-push-requires-2 (claims t) (run-at t) run.Post run-Inv-loop run-μ-loop
-  push-requires-2 c κs =
-      let k = c .before .before .before .before .before .before .before in
-      let w = looping (marked k) in
-      let r = descends (child k) in
-      let counts : cond (callAt k .listing) (w .loop .found) 0 ≡ w .loop .found = ap (λ (x : Bool). cond x (w .loop .found) 0) (both k (c .before .before .before .before .before .if5 .taken) .0) in
-      (r .small, (struct-sized k, (omega (arith, counts, r .listed, r .counted, r .bounded), (r .few, r .shaped))))
-
   enum-known-following : run-lts.Need-enum-known-following (claims t) (run-at t) run.Post run-Inv-loop run-μ-loop
   enum-known-following c = search needs
 
   enum-told-3 : run-lts.Need-enum-told-3 (claims t) (run-at t) run.Post run-Inv-loop run-μ-loop
   enum-told-3 c = search needs
 
+  run-requires : run-lts.Need-run-requires (claims t) (run-at t) run.Post run-Inv-loop run-μ-loop
+  run-requires c κs =
+      let k = c .before .before .before .before .before .before .before .before in
+      let m = above (looping (marked k)) in
+      (omega (arith, start m .pre .0, deep m), descends (child k))
+
   same-length-5 : run-lts.Need-same-length-5 (claims t) (run-at t) run.Post run-Inv-loop run-μ-loop
-  same-length-5 c = promised-up (stored (c .before .before .before .before .before)) .distances-length
+  same-length-5 c = promised-up (last (c .before .before .before)) .distances-length
 
   same-length-6 : run-lts.Need-same-length-6 (claims t) (run-at t) run.Post run-Inv-loop run-μ-loop
-  same-length-6 c = promised-up (stored (c .before .before .before .before .before)) .points-length
+  same-length-6 c = promised-up (last (c .before .before .before)) .points-length
 
   returns-6 : run-lts.Need-returns-6 (claims t) (run-at t) run.Post run-Inv-loop run-μ-loop
   returns-6 c =
-      let v = c .before .before .before .before .before in
-      (lasts (stored v) (sym (c .enum-told3 .given .1) ∙ beside v .next .ensures), promised-up (stored v))
+      let v = c .before .before .before in
+      (lasts (last v) (sym (v .before .before .before .before .before .before .enum-told3 .given .1) ∙ lower v .next .ensures), promised-up (last v))
+
+  run-requires-2 : run-lts.Need-run-requires-2 (claims t) (run-at t) run.Post run-Inv-loop run-μ-loop
+  run-requires-2 c κs =
+      let k = c .before .before .before .before .before .before .before .before .before in
+      let m = above (looping (marked k)) in
+      (omega (arith, start m .pre .0, deep m), descends (child k))
+
+  same-length-7 : run-lts.Need-same-length-7 (claims t) (run-at t) run.Post run-Inv-loop run-μ-loop
+  same-length-7 c = promised-up (returned (c .before .before .before .before)) .distances-length
+
+  same-length-8 : run-lts.Need-same-length-8 (claims t) (run-at t) run.Post run-Inv-loop run-μ-loop
+  same-length-8 c = promised-up (returned (c .before .before .before .before)) .points-length
+
+  returns-7 : run-lts.Need-returns-7 (claims t) (run-at t) run.Post run-Inv-loop run-μ-loop
+  returns-7 c =
+      let v = c .before .before .before .before in
+      (halts (returned v) (c .if5 .taken), promised-up (returned v))
 
   loop-less : run-lts.Need-loop-less (claims t) (run-at t) run.Post run-Inv-loop run-μ-loop
-  loop-less c = omega (arith, child (beside (c .before .before .before .before .before .before)) .free)
+  loop-less c =
+      let v = c .before .before .before .before in
+      omega (arith, child (deeper v) .free, returned v .left .more)
 
   loop-again : run-lts.Need-loop-again (claims t) (run-at t) run.Post run-Inv-loop run-μ-loop
   loop-again c =
-      let v = c .before .before .before .before .before .before in
-      record { generator = child (beside v) .tried .after; going = goes-on (stored v) (looping (marked (beside v)) .loop .inv .going .live); gives = sym (c .before .following .given .1) ∙ beside v .next .ensures }
+      let v = c .before .before .before .before in
+      record { generator = child (deeper v) .tried .after; going = goes-on (returned v) (c .if5 .left); gives = sym (v .before .before .before .before .before .before .before .following .given .1) ∙ deeper v .next .ensures }
 
   enum-known-following-2 : run-lts.Need-enum-known-following-2 (claims t) (run-at t) run.Post run-Inv-loop run-μ-loop
   enum-known-following-2 c = search needs
@@ -387,75 +366,25 @@ module _ (t : ℕ) where
   enum-told-4 : run-lts.Need-enum-told-4 (claims t) (run-at t) run.Post run-Inv-loop run-μ-loop
   enum-told-4 c = search needs
 
-  run-requires : run-lts.Need-run-requires (claims t) (run-at t) run.Post run-Inv-loop run-μ-loop
-  run-requires c κs =
-      let k = c .before .before .before .before .before .before .before .before .before in
-      let m = above (looping (marked k)) in
-      (omega (arith, start m .pre .0, deep m), descends (child k))
-
-  same-length-7 : run-lts.Need-same-length-7 (claims t) (run-at t) run.Post run-Inv-loop run-μ-loop
-  same-length-7 c = promised-up (last (c .before .before .before)) .distances-length
-
-  same-length-8 : run-lts.Need-same-length-8 (claims t) (run-at t) run.Post run-Inv-loop run-μ-loop
-  same-length-8 c = promised-up (last (c .before .before .before)) .points-length
-
-  returns-7 : run-lts.Need-returns-7 (claims t) (run-at t) run.Post run-Inv-loop run-μ-loop
-  returns-7 c =
-      let v = c .before .before .before in
-      (lasts (last v) (sym (v .before .before .before .before .before .before .enum-told4 .given .1) ∙ lower v .next .ensures), promised-up (last v))
-
-  run-requires-2 : run-lts.Need-run-requires-2 (claims t) (run-at t) run.Post run-Inv-loop run-μ-loop
-  run-requires-2 c κs =
-      let k = c .before .before .before .before .before .before .before .before .before .before in
-      let m = above (looping (marked k)) in
-      (omega (arith, start m .pre .0, deep m), descends (child k))
-
   same-length-9 : run-lts.Need-same-length-9 (claims t) (run-at t) run.Post run-Inv-loop run-μ-loop
-  same-length-9 c = promised-up (returned (c .before .before .before .before)) .distances-length
+  same-length-9 c = search needs
 
   same-length-10 : run-lts.Need-same-length-10 (claims t) (run-at t) run.Post run-Inv-loop run-μ-loop
-  same-length-10 c = promised-up (returned (c .before .before .before .before)) .points-length
+  same-length-10 c = search needs
 
   returns-8 : run-lts.Need-returns-8 (claims t) (run-at t) run.Post run-Inv-loop run-μ-loop
   returns-8 c =
-      let v = c .before .before .before .before in
-      (halts (returned v) (c .if6 .taken), promised-up (returned v))
+      let k = c .before .before .before in
+      let going = prunes (child k) (c .before .before .if4 .left) in
+      (ends (record { at = level (above (looping (marked k))); now = _; generator = _; going = going }) (sym (c .enum-told4 .given .1) ∙ k .next .ensures), going .promised)
 
   loop-less-2 : run-lts.Need-loop-less-2 (claims t) (run-at t) run.Post run-Inv-loop run-μ-loop
-  loop-less-2 c =
-      let v = c .before .before .before .before in
-      omega (arith, child (deeper v) .free, returned v .left .more)
+  loop-less-2 c = omega (arith, child (c .before .before .before .before) .free)
 
   loop-again-2 : run-lts.Need-loop-again-2 (claims t) (run-at t) run.Post run-Inv-loop run-μ-loop
   loop-again-2 c =
-      let v = c .before .before .before .before in
-      record { generator = child (deeper v) .tried .after; going = goes-on (returned v) (c .if6 .left); gives = sym (v .before .before .before .before .before .before .before .following2 .given .1) ∙ deeper v .next .ensures }
-
-  enum-known-following-3 : run-lts.Need-enum-known-following-3 (claims t) (run-at t) run.Post run-Inv-loop run-μ-loop
-  enum-known-following-3 c = search needs
-
-  enum-told-5 : run-lts.Need-enum-told-5 (claims t) (run-at t) run.Post run-Inv-loop run-μ-loop
-  enum-told-5 c = search needs
-
-  same-length-11 : run-lts.Need-same-length-11 (claims t) (run-at t) run.Post run-Inv-loop run-μ-loop
-  same-length-11 c = search needs
-
-  same-length-12 : run-lts.Need-same-length-12 (claims t) (run-at t) run.Post run-Inv-loop run-μ-loop
-  same-length-12 c = search needs
-
-  returns-9 : run-lts.Need-returns-9 (claims t) (run-at t) run.Post run-Inv-loop run-μ-loop
-  returns-9 c =
-      let k = c .before .before .before in
-      let going = prunes (child k) (c .before .before .if4 .left) in
-      (ends (record { at = level (above (looping (marked k))); now = _; generator = _; going = going }) (sym (c .enum-told5 .given .1) ∙ k .next .ensures), going .promised)
-
-  loop-less-3 : run-lts.Need-loop-less-3 (claims t) (run-at t) run.Post run-Inv-loop run-μ-loop
-  loop-less-3 c = omega (arith, child (c .before .before .before .before) .free)
-
-  loop-again-3 : run-lts.Need-loop-again-3 (claims t) (run-at t) run.Post run-Inv-loop run-μ-loop
-  loop-again-3 c =
       let k = c .before .before .before .before in
-      record { generator = child k .tried .after; going = prunes (child k) (c .before .before .before .if4 .left); gives = sym (c .before .following3 .given .1) ∙ k .next .ensures }
+      record { generator = child k .tried .after; going = prunes (child k) (c .before .before .before .if4 .left); gives = sym (c .before .following2 .given .1) ∙ k .next .ensures }
 
 pub +run-spec : {M : Type 1} → statement M
 +run-spec = close μ-run λ t. run-lts.spec (claims t)
@@ -478,7 +407,6 @@ pub +run-spec : {M : Type 1} → statement M
     (enum-known-child t)
     (enum-told-2 t)
     (returns-4 t)
-    (stores-at-requires t)
     (loop-holds t)
     (same-length-3 t)
     (same-length-4 t)
@@ -491,30 +419,22 @@ pub +run-spec : {M : Type 1} → statement M
     (mul-rest-2 t)
     (element-write-rest t)
     (next-requires t)
-    (push-requires-2 t)
     (enum-known-following t)
     (enum-told-3 t)
+    (run-requires t)
     (same-length-5 t)
     (same-length-6 t)
     (returns-6 t)
+    (run-requires-2 t)
+    (same-length-7 t)
+    (same-length-8 t)
+    (returns-7 t)
     (loop-less t)
     (loop-again t)
     (enum-known-following-2 t)
     (enum-told-4 t)
-    (run-requires t)
-    (same-length-7 t)
-    (same-length-8 t)
-    (returns-7 t)
-    (run-requires-2 t)
     (same-length-9 t)
     (same-length-10 t)
     (returns-8 t)
     (loop-less-2 t)
     (loop-again-2 t)
-    (enum-known-following-3 t)
-    (enum-told-5 t)
-    (same-length-11 t)
-    (same-length-12 t)
-    (returns-9 t)
-    (loop-less-3 t)
-    (loop-again-3 t)
