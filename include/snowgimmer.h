@@ -63,7 +63,7 @@ uint32_t snowgimmer_nearest_ml(const double *weights, size_t weights_len, const 
 
 /* Lists every integer vector admitted at the radius, by distance and then coordinates: the distances go to distances,
  * at most 4096, and n coordinates for each to points, which is n times as long. first is the number of nodes, second
- * that of points; places after the last point keep their contents. Refused: 2 to 9, 14, 15, 18. Stack: 0.9 MB. */
+ * that of points; places after the last point keep their contents. Refused: 2 to 9, 14, 15, 18. Stack: 0.95 MB. */
 uint32_t snowgimmer_list(const double *weights, size_t weights_len, const double *mu, size_t mu_len,
     const double *target, size_t target_len, double *distances, size_t distances_len, int64_t *points,
     size_t points_len, double radius, uint64_t budget, uint64_t *first, uint64_t *second, double *real);

@@ -151,7 +151,7 @@ pub struct Listed {
 
 /// Lists every integer vector that is admitted at the radius, by distance and then coordinates: the distances go to
 /// `distances`, at most 4,096, and n coordinates for each to `points`, which is n times as long. Places after the last
-/// point keep their contents. The call needs about 0.9 MB of stack.
+/// point keep their contents. The call needs about 0.95 MB of stack.
 ///
 /// # Errors
 ///

@@ -48,7 +48,7 @@ module _ (t : Table) (target : List Float) (limits : Limits t target) where
       here false t = absurd t
 
   -- what holds each admitted vector once holds nothing else
-  pub exact-listed : (R : Float) (ps : List ListPoint) → OwnDistances t target ps → EachOnce (admitted t target R) (vectorsOf ps) → All (Listed (dimension t)) ps
+  exact-listed : (R : Float) (ps : List ListPoint) → OwnDistances t target ps → EachOnce (admitted t target R) (vectorsOf ps) → All (Listed (dimension t)) ps
   exact-listed R ps own once = all-listed ps own (λ x h. is-vector x (tally-some (admitted t target R x) (subst (λ (k : ℕ). 0 < k) (once x) h)))
     where
       is-vector : (x : List ℤ) → T (admitted t target R x) → T (isVector t x)

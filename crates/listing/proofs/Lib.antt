@@ -2,9 +2,7 @@
 pub mod Walks
 pub mod Writing
 pub mod Coordinates
-pub mod Places
 pub mod Doubles
 pub mod Found
 pub mod Ordering
 pub mod Endings
-pub mod Buffers

@@ -1,26 +1,41 @@
--- The points found, at their places sorted, are those of the definition in its order. Assumes nothing.
+-- The points at the first places, and what is known of them once they are those found. Assumes nothing.
 use mathlib.Core.Path.{_≡_, refl, ap, sym, _∙_, subst}
-use mathlib.Core.List.{List, [], _∷_, _++_, map, reverse}
-use Prim.Native.Nat.{ℕ, _+_, _*_, _≤_, _<_}
+use mathlib.Core.List.{List, [], _∷_, _++_, map, map-append, reverse}
+use Prim.Native.Nat.{ℕ, zero, suc, _+_, _*_, _≤_, _<_}
 use native.Mathlib.Nat.{mul-le-mul-right}
 use native.Mathlib.Omega.{arith}
 use lib.ListN.{length, getD, take, drop, length-drop, take-append-drop}
-use lib.Seq.{length-take-le, getD-take, drop-append-le, take-append-le}
+use lib.Seq.{length-take-le, getD-take, take-suc, drop-append-le, take-append-le}
 use lib.IntN.{ℤ}
-use lib.Ieee.{Float, nan}
+use lib.Ieee.{Float, nan, binary64}
+use Rattle.rounding.proofs.Value.{NonNegative}
 use Rattle.definitions.specs.Listing.{ListPoint, sorted}
-use Rattle.definitions.specs.Checks.{countFrom}
 use Rattle.sorting.specs.All.{All, none, more}
-use Rattle.sorting.specs.Merge.{mergeSort}
-use Rattle.sorting.specs.Indices.{indexBefore, AllBelow}
+use Rattle.sorting.specs.Indices.{AllBelow}
 use Rattle.sorting.specs.Rows.{row, rows}
 use Rattle.sorting.proofs.Permutations.{reversed, all-kept}
 use Rattle.sorting.proofs.Each.{counted-below}
 use Rattle.definitions.proofs.ListedOrder.{Listed, listed-order}
-use Rattle.sorting.proofs.Mapping.{rows-counted, places-sorted}
-use Rattle.sorting.proofs.Places.{row-fits, counted-length}
+use Rattle.sorting.proofs.Mapping.{rows-counted}
+use Rattle.sorting.proofs.Places.{row-fits}
 use Rattle.sorting.proofs.Sorted.{sorted-reversed}
-use Rattle.listing.specs.View.{sortedPlaces}
+
+-- ---- the distances of points
+
+module _ (n : ℕ) (distances : List Float) (points : List ℤ) where
+  -- at some places
+  pub distances-at : (is : List ℕ) → map (λ (i : ℕ). getD distances i nan) is ≡ map (λ (p : ListPoint). p .distance) (map (row n distances points) is)
+  distances-at [] = refl
+  distances-at (i ∷ is) = ap (λ (l : List Float). getD distances i nan ∷ l) (distances-at is)
+
+  -- at the first k
+  distances-first : (k : ℕ) → k ≤ length distances → map (λ (p : ListPoint). p .distance) (rows n k distances points) ≡ take k distances
+  unfolding rows
+  distances-first zero h = refl
+  distances-first (suc k) h =
+      map-append (λ (p : ListPoint). p .distance) (rows n k distances points) (row n distances points k ∷ [])
+      ∙ ap (λ (l : List Float). l ++ getD distances k nan ∷ []) (distances-first k (omega arith))
+      ∙ sym (take-suc distances k nan h)
 
 -- ---- the first places alone
 
@@ -59,23 +74,22 @@ module _ (n k : ℕ) (distances : List Float) (points : List ℤ) (places : k �
   rows-first (more {x = i} {xs = is} h rest) =
       ap (λ (p : ListPoint). p ∷ map (row n firsts heads) is) (row-first i h) ∙ ap (λ (l : List ListPoint). row n distances points i ∷ l) (rows-first rest)
 
-  -- ---- in their order
-  module _ (ps : List ListPoint) (stored : rows n k distances points ≡ reverse ps) (listed : All (Listed n) ps) where
-    same-points : map (row n firsts heads) (countFrom 0 k) ≡ reverse ps
-    same-points = rows-first (counted-below 0 k k (omega arith)) ∙ sym (rows-counted n distances points k) ∙ stored
+  pub firsts-rows : rows n (length firsts) firsts heads ≡ rows n k distances points
+  firsts-rows =
+      ap (λ (j : ℕ). rows n j firsts heads) firsts-length
+      ∙ rows-counted n firsts heads k
+      ∙ rows-first (counted-below 0 k k (omega arith))
+      ∙ sym (rows-counted n distances points k)
 
-    pub found-sorted : map (row n firsts heads) (sortedPlaces n firsts heads) ≡ sorted ps
-    found-sorted =
-        let is = countFrom 0 k in
-        ap (λ (j : ℕ). map (row n firsts heads) (mergeSort (indexBefore n firsts heads) j (countFrom 0 j))) firsts-length
-        ∙ ap (λ (j : ℕ). map (row n firsts heads) (mergeSort (indexBefore n firsts heads) j is)) (sym (counted-length 0 k))
-        ∙ places-sorted n firsts heads (listed-order n) is (subst (All (Listed n)) (sym same-points) (all-kept (reversed ps) listed))
-        ∙ ap sorted same-points
-        ∙ sorted-reversed (listed-order n) ps listed
+-- ---- where they hold the points found
 
-    distance-at : (is : List ℕ) → map (λ (i : ℕ). getD firsts i nan) is ≡ map (λ (p : ListPoint). p .distance) (map (row n firsts heads) is)
-    distance-at [] = refl
-    distance-at (i ∷ is) = ap (λ (l : List Float). getD firsts i nan ∷ l) (distance-at is)
+all-nonneg : {n : ℕ} {ps : List ListPoint} → All (Listed n) ps → All (NonNegative binary64) (map (λ (p : ListPoint). p .distance) ps)
+all-nonneg none = none
+all-nonneg (more l a) = more (l .distance) (all-nonneg a)
 
-    pub distances-sorted : map (λ (i : ℕ). getD firsts i nan) (sortedPlaces n firsts heads) ≡ map (λ (p : ListPoint). p .distance) (sorted ps)
-    distances-sorted = distance-at (sortedPlaces n firsts heads) ∙ ap (map (λ (p : ListPoint). p .distance)) found-sorted
+module _ (n k : ℕ) (distances : List Float) (points : List ℤ) (ps : List ListPoint) (stored : rows n k distances points ≡ reverse ps) (listed : All (Listed n) ps) where
+  pub stored-nonneg : k ≤ length distances → All (NonNegative binary64) (take k distances)
+  stored-nonneg h = subst (All (NonNegative binary64)) (distances-first n distances points k h) (all-nonneg (subst (All (Listed n)) (sym stored) (all-kept (reversed ps) listed)))
+
+  pub stored-sorted : sorted (rows n k distances points) ≡ sorted ps
+  stored-sorted = ap sorted stored ∙ sorted-reversed (listed-order n) ps listed

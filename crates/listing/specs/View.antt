@@ -2,16 +2,11 @@
 use Prim.Native.Nat.{ℕ}
 use mathlib.Core.List.{List}
 use lib.ListN.{length}
-use lib.IntN.{ℤ}
-use lib.Ieee.{Float}
 use Rattle.definitions.specs.Walk.{Walked, ended, exhausted}
 use Rattle.definitions.specs.Listing.{ListPoint}
 use Rattle.definitions.specs.Calls.{Answer, found, refused}
 use Rattle.definitions.specs.Calls as C
-use Rattle.definitions.specs.Checks.{countFrom}
 use Rattle.refusals.specs.Numbers.{numbered}
-use Rattle.sorting.specs.Merge.{mergeSort}
-use Rattle.sorting.specs.Indices.{indexBefore}
 use Rattle.listing.specs.declared.ListAnswer.{ListAnswer}
 use Rattle.listing.specs.declared.ListAnswer.the-variants.{Found, Refused}
 use Rattle.listing.specs.declared.ListEnding.{ListEnding}
@@ -36,7 +31,3 @@ answerOf (Refused e) = refused (numbered e)
 abbrev pub endingOf : Walked (List ListPoint) → ListEnding
 endingOf (ended ps standing nodes) = Ended nodes (length ps)
 endingOf (exhausted nodes standing) = Exhausted nodes standing
-
--- the places of the points found, in the list's order
-abbrev pub sortedPlaces : ℕ → List Float → List ℤ → List ℕ
-sortedPlaces n distances points = mergeSort (indexBefore n distances points) (length distances) (countFrom 0 (length distances))

@@ -4,17 +4,19 @@ ghost use mathlib.Core.List.{List, reverse, map};
 ghost use Prim.Native.Nat.{ℕ, _+_, _*_, _≤_, _^_, min};
 ghost use lib.ListN.{length, getD, take, drop};
 ghost use lib.Seq.{paste};
-ghost use lib.Ieee.{Float, nan};
+ghost use lib.Ieee.{Float, nan, binary64};
+ghost use Rattle.rounding.proofs.Value.{NonNegative};
 ghost use Rattle.definitions.specs.Table.{table};
 ghost use Rattle.definitions.specs.Walk.{ended};
-ghost use Rattle.definitions.specs.Listing.{ListPoint, listWalk};
+ghost use Rattle.definitions.specs.Listing.{ListPoint, listWalk, sorted};
 ghost use Rattle.definitions.specs.Checks.{pass};
 ghost use Rattle.definitions.specs.Calls.{written, coordinates};
 ghost use Rattle.definitions.specs.Calls as C;
 ghost use Rattle.refusals.specs.Numbers.{verdict};
+ghost use Rattle.sorting.specs.All.{All};
 ghost use Rattle.sorting.specs.Rows.{row, rows};
 ghost use Rattle.sorting.specs.Indices.{AllBelow};
-ghost use Rattle.listing.specs.View.{answerOf, countsOf, endingOf, sortedPlaces};
+ghost use Rattle.listing.specs.View.{answerOf, countsOf, endingOf};
 use checks::budget_check;
 use checks::handed_on;
 use checks::length_check;
@@ -26,8 +28,7 @@ use refusals::Refusal;
 use refusals::Verdict;
 use search::begun;
 use search::run;
-use sorting::identity;
-use sorting::sort;
+use sorting::sort_places;
 
 const LARGEST_DIMENSION: usize = 23;
 
@@ -172,12 +173,13 @@ fn write_points(found: &[i64], order: &[usize], n: usize, points: &mut [i64])
     }
 }
 
-// Sorts what was found by the list's order and writes it over the first places. Order and spare are room for the sort;
-// what is left in them says nothing.
+// Sorts what was found by the list's order and writes it over the first places. The limit is a bound of the distances, for
+// speed alone. Order and spare are room for the sort; what is left in them says nothing.
 fn write_list(
     measured: &[f64],
     vectors: &[i64],
     n: usize,
+    limit: f64,
     order: &mut [usize],
     spare: &mut [usize],
     distances: &mut [f64],
@@ -186,15 +188,15 @@ fn write_list(
     requires { ⌜ n ≤ 64 ⌝ }
     requires { ⌜ length (now measured) ≤ 4096 ⌝ }
     requires { ⌜ length (now vectors) ≡ length (now measured) * n ⌝ }
+    requires { ⌜ All (NonNegative binary64) (now measured) ⌝ }
     requires { ⌜ length (now order) ≡ length (now measured) ⌝ }
     requires { ⌜ length (now spare) ≡ length (now measured) ⌝ }
     requires { ⌜ length (now measured) ≤ length (now distances) ⌝ }
     requires { ⌜ length (now vectors) ≤ length (now points) ⌝ }
-    ensures { λ r. ⌜ now (distances .exit) ≡ written (map (λ (i : ℕ). getD (now (measured .entry)) i nan) (sortedPlaces n (now (measured .entry)) (now (vectors .entry)))) (now (distances .entry)) ⌝ }
-    ensures { λ r. ⌜ now (points .exit) ≡ written (coordinates (map (row n (now (measured .entry)) (now (vectors .entry))) (sortedPlaces n (now (measured .entry)) (now (vectors .entry))))) (now (points .entry)) ⌝ }
+    ensures { λ r. ⌜ now (distances .exit) ≡ written (map (λ (p : ListPoint). p .distance) (sorted (rows n (length (now (measured .entry))) (now (measured .entry)) (now (vectors .entry))))) (now (distances .entry)) ⌝ }
+    ensures { λ r. ⌜ now (points .exit) ≡ written (coordinates (sorted (rows n (length (now (measured .entry))) (now (measured .entry)) (now (vectors .entry))))) (now (points .entry)) ⌝ }
 {
-    identity(order);
-    sort(measured, vectors, n, order, spare);
+    sort_places(measured, vectors, n, limit, order, spare);
     write_distances(measured, order, distances);
     write_points(vectors, order, n, points);
 }
@@ -205,6 +207,7 @@ fn write_first(
     vectors: &[i64],
     n: usize,
     k: usize,
+    limit: f64,
     order: &mut [usize],
     spare: &mut [usize],
     distances: &mut [f64],
@@ -214,18 +217,20 @@ fn write_first(
     requires { ⌜ k ≤ 4096 ⌝ }
     requires { ⌜ k ≤ length (now measured) ⌝ }
     requires { ⌜ length (now vectors) ≡ length (now measured) * n ⌝ }
+    requires { ⌜ All (NonNegative binary64) (take k (now measured)) ⌝ }
     requires { ⌜ k ≤ length (now order) ⌝ }
     requires { ⌜ k ≤ length (now spare) ⌝ }
     requires { ⌜ k ≤ length (now distances) ⌝ }
     requires { ⌜ k * n ≤ length (now points) ⌝ }
-    ensures { λ r. ⌜ now (distances .exit) ≡ written (map (λ (i : ℕ). getD (take k (now (measured .entry))) i nan) (sortedPlaces n (take k (now (measured .entry))) (take (k * n) (now (vectors .entry))))) (now (distances .entry)) ⌝ }
-    ensures { λ r. ⌜ now (points .exit) ≡ written (coordinates (map (row n (take k (now (measured .entry))) (take (k * n) (now (vectors .entry)))) (sortedPlaces n (take k (now (measured .entry))) (take (k * n) (now (vectors .entry)))))) (now (points .entry)) ⌝ }
+    ensures { λ r. ⌜ now (distances .exit) ≡ written (map (λ (p : ListPoint). p .distance) (sorted (rows n k (now (measured .entry)) (now (vectors .entry))))) (now (distances .entry)) ⌝ }
+    ensures { λ r. ⌜ now (points .exit) ≡ written (coordinates (sorted (rows n k (now (measured .entry)) (now (vectors .entry))))) (now (points .entry)) ⌝ }
 {
     let size = k * n;
     write_list(
         &measured[..k],
         &vectors[..size],
         n,
+        limit,
         &mut order[..k],
         &mut spare[..k],
         distances,
@@ -267,7 +272,17 @@ fn list_into(
             if k > distances.len() {
                 return ListAnswer::Refused(Refusal::ListFull(k));
             }
-            write_first(measured, vectors, n, k, order, spare, distances, points);
+            write_first(
+                measured,
+                vectors,
+                n,
+                k,
+                radius,
+                order,
+                spare,
+                distances,
+                points,
+            );
             return ListAnswer::Found(ListFound { nodes, points: k });
         }
     }
@@ -347,7 +362,7 @@ fn list_long(
     )
 }
 
-// The same with at most 256 places, as the job has them: shorter arrays to clear.
+// The same with at most 32,768 coordinates, enough for all places at n = 8: a shorter array to clear.
 fn list_short(
     weights: &[f64],
     mu: &[f64],
@@ -358,15 +373,15 @@ fn list_short(
     budget: u64,
 ) -> ListAnswer
     requires { ⌜ C.listChecks (table (now weights) (now mu)) (now target) (now distances) (now points) radius budget ≡ pass ⌝ }
-    requires { ⌜ length (now distances) ≤ 256 ⌝ }
+    requires { ⌜ length (now points) ≤ 32768 ⌝ }
     ensures { λ r. ⌜ answerOf r ≡ countsOf (C.list (table (now (weights .entry)) (now (mu .entry))) (now (target .entry)) (now (distances .entry)) (now (points .entry)) radius budget) ⌝ }
     ensures { λ r. ⌜ now (distances .exit) ≡ C.listDistances (C.list (table (now (weights .entry)) (now (mu .entry))) (now (target .entry)) (now (distances .entry)) (now (points .entry)) radius budget) (now (distances .entry)) ⌝ }
     ensures { λ r. ⌜ now (points .exit) ≡ C.listPoints (C.list (table (now (weights .entry)) (now (mu .entry))) (now (target .entry)) (now (distances .entry)) (now (points .entry)) radius budget) (now (points .entry)) ⌝ }
 {
-    let mut measured = [0.0; 256];
-    let mut vectors = [0i64; 5888];
-    let mut order = [0usize; 256];
-    let mut spare = [0usize; 256];
+    let mut measured = [0.0; 4096];
+    let mut vectors = [0i64; 32768];
+    let mut order = [0usize; 4096];
+    let mut spare = [0usize; 4096];
     list_within(
         weights,
         mu,
@@ -388,7 +403,7 @@ fn list_short(
 //
 // Refused: 2 to 9, the table and the call; 14, over 4,096 distances, or points not n times as many (distances' length);
 // 15, the budget ran out (nodes, the radius); 18, more points than places (points). A refusal leaves both slices as
-// they were. The call needs about 0.9 MB of stack.
+// they were. The call needs about 0.95 MB of stack.
 pub fn list(
     weights: &[f64],
     mu: &[f64],
@@ -407,7 +422,7 @@ pub fn list(
         return ListAnswer::Refused(e);
     }
     let start = handed_on(radius);
-    if distances.len() <= 256 {
+    if points.len() <= 32768 {
         return list_short(weights, mu, target, distances, points, start, budget);
     }
     list_long(weights, mu, target, distances, points, start, budget)

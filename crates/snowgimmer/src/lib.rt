@@ -99,7 +99,7 @@ pub extern "C" fn snowgimmer_nearest_ml(
 }
 
 // Every integer vector that is admitted at the radius, by distance and then coordinates: first is the number of nodes, second
-// that of points. Places after the last point keep their contents. It needs about 0.9 MB of stack.
+// that of points. Places after the last point keep their contents. It needs about 0.95 MB of stack.
 //
 // Refused: 2 to 9, 14, 15 and 18.
 #[no_mangle]

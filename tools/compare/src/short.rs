@@ -23,6 +23,7 @@ pub fn cases(visit: Visit) {
     large_weights(visit);
     wide_centres(visit);
     long_lists(visit);
+    list_orders(visit);
 }
 
 fn with_neighbours(values: &[f64]) -> Vec<f64> {
@@ -419,5 +420,44 @@ fn long_lists(visit: Visit) {
             let case = Case::new(Call::List, &[1.0, 1.0], &[0.0; 4], &[0.0, 0.25], radius, MOST_NODES);
             visit(case.with_places(places));
         }
+    }
+}
+
+/// Lists with an order that is hard to make: many equal distances, distances over many powers of two, all beside the
+/// radius or all far below it; the same subnormal and huge.
+fn list_orders(visit: Visit) {
+    let flat = 2f64.powi(-40);
+    let shapes: [(&[f64], &[f64], f64); 10] = [
+        (&[1.0; 3], &[0.0; 3], 90.0),
+        (&[1.0; 3], &[0.5; 3], 90.0),
+        (&[1.0; 3], &[0.5; 3], 2.7),
+        (&[1.0; 4], &[0.0, 0.0, 0.5, 0.5], 27.0),
+        (&[1.0, 2.0, 1.5], &[0.1, 0.2, 0.3], 110.0),
+        (&[1.0, 1000.0], &[0.0, 0.0], 400_000.0),
+        (&[flat, 1.0], &[0.25, 0.5], 0.25 + 600_000.0 * flat),
+        (&[flat, flat, 1.0], &[0.25, 0.5, 0.5], 0.25 + 600.0 * flat),
+        (&[1.0, flat], &[0.5, 0.0], 0.25 + 600_000.0 * flat),
+        (&[1.0, 1.0], &[0.0, 0.0], 0.0),
+    ];
+    for (weights, target, radius) in shapes {
+        for scale in [1.0, 2f64.powi(-1022), 2f64.powi(-1060), 2f64.powi(-1074), 2f64.powi(1000)] {
+            for entry in [0.0, 0.25, -0.5] {
+                list_order(weights, entry, target, radius, scale, visit);
+            }
+        }
+    }
+}
+
+fn list_order(weights: &[f64], entry: f64, target: &[f64], radius: f64, scale: f64, visit: Visit) {
+    let n = weights.len();
+    let weights: Vec<f64> = weights.iter().map(|w| w * scale).collect();
+    let mu: Vec<f64> = (0..n * n).map(|k| if k % n < k / n { entry } else { 0.0 }).collect();
+    let case = Case::new(Call::List, &weights, &mu, target, radius * scale, MOST_NODES);
+    if weights.contains(&0.0) {
+        return visit(case);
+    }
+    let found = points(&case, 19_000);
+    for places in [found.saturating_sub(1), found, MOST_PLACES] {
+        visit(case.clone().with_places(places.min(MOST_PLACES)));
     }
 }

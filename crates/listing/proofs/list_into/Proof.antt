@@ -1,11 +1,12 @@
 -- `list_into` meets its contract: the walk's ending is the answer's, and the points found are written in their order. Assumes nothing.
 use mathlib.Core.Path.{_≡_, ap, sym, _∙_}
-use mathlib.Core.List.{List, reverse}
+use mathlib.Core.List.{List, map, reverse}
 use Prim.Native.Nat.{ℕ, _*_, _≤_, _<_, min}
 use native.Mathlib.Nat.{mul-comm, mul-le-mul-right}
 use native.Mathlib.Omega.{arith}
 use lib.ListN.{length, length-reverse}
 use lib.Seq.{take-all}
+use lib.IntN.{ℤ}
 use lib.Ieee.{Float}
 use lib.Ieee.Fits.{and-i}
 use borrow.Author.Needs.{needs}
@@ -25,7 +26,7 @@ use Rattle.theorems.specs.Doubles.{allDoubles}
 use Rattle.listing.specs.View.{endingOf}
 use Rattle.listing.proofs.Doubles.{all-doubles}
 use Rattle.listing.proofs.Found.{found-listed}
-use Rattle.listing.proofs.Ordering.{found-sorted, distances-sorted}
+use Rattle.listing.proofs.Ordering.{stored-nonneg, stored-sorted}
 use Rattle.listing.proofs.Endings.{ending-exhausted, ending-ended, answer-refused, answer-found}
 use Rattle.listing.proofs.list_into.Statement.{statement}
 use Rattle.listing.proofs.list_into.Tie as tie
@@ -79,21 +80,50 @@ listed b =
 
 -- ---- where all points have a place
 
+abbrev walked : tie.Else1 → tie.After-list-walk
+walked c = c .before .before .before .before .before .before .before
+
+abbrev begun : tie.Else1 → tie.Start
+begun c = walked c .before .before .before .before .before .before .before .before .before .before
+
+abbrev nodes : tie.Else1 → ℕ
+nodes c = c .before .before .end2 .given .0 .0
+
+abbrev count : tie.Else1 → ℕ
+count c = c .before .before .end2 .given .0 .1 .0
+
+-- the private slices after the walk
+abbrev measured : tie.Else1 → List Float
+measured c = walked c .list-walk .last .1 .1 .1 .0
+
+abbrev vectors : tie.Else1 → List ℤ
+vectors c = walked c .list-walk .last .1 .1 .1 .1 .0
+
 -- there are so many
-within : (c : tie.Else1) → c .before .before .end2 .given .0 .1 .0 ≤ length (c .before .before .before .before .before .before .before .list-walk .last .1 .1 .1 .0)
-within c =
-    let at = c .before .before .before .before .before .before .before in
-    let b = at .before .before .before .before .before .before .before .before .before .before in
-    omega (arith, c .if1 .left, at .list-walk .ensures .1 .1 .0, b .pre .1 .0)
+within : (c : tie.Else1) → count c ≤ length (measured c)
+within c = omega (arith, c .if1 .left, walked c .list-walk .ensures .1 .1 .0, begun c .pre .1 .0)
 
 -- and the private slices keep their shape
-shape : (c : tie.Else1) →
-    let at = c .before .before .before .before .before .before .before in
-    length (at .list-walk .last .1 .1 .1 .1 .0) ≡ length (at .list-walk .last .1 .1 .1 .0) * length (at .before .before .before .before .before .before .before .before .before .before .args .weights .now)
-shape c =
-    let at = c .before .before .before .before .before .before .before in
-    let b = at .before .before .before .before .before .before .before .before .before .before in
-    at .list-walk .ensures .1 .1 .1 ∙ shaped b ∙ ap (λ (k : ℕ). k * length (b .args .weights .now)) (sym (at .list-walk .ensures .1 .1 .0))
+shape : (c : tie.Else1) → length (vectors c) ≡ length (measured c) * length (begun c .args .weights .now)
+shape c = walked c .list-walk .ensures .1 .1 .1 ∙ shaped (begun c) ∙ ap (λ (k : ℕ). k * length (begun c .args .weights .now)) (sym (walked c .list-walk .ensures .1 .1 .0))
+
+-- what was found
+points-found : (c : tie.Else1) →
+    let a = begun c .args in
+    (ps : List ListPoint) × (S : Float) × (listWalk (table (a .weights .now) (a .mu .now)) (a .target .now) (a .radius) (a .budget) ≡ ended ps S (nodes c)) × (length ps ≡ count c)
+points-found c =
+    let a = begun c .args in
+    ending-ended (listWalk (table (a .weights .now) (a .mu .now)) (a .target .now) (a .radius) (a .budget)) (nodes c) (count c) (ending (walked c) ∙ c .before .before .end2 .given .1)
+
+found-stored : (c : tie.Else1) → rows (length (begun c .args .weights .now)) (count c) (measured c) (vectors c) ≡ reverse (points-found c .0)
+found-stored c =
+    let f = points-found c in
+    ap (λ (k : ℕ). rows (length (begun c .args .weights .now)) k (measured c) (vectors c)) (sym (f .3)) ∙ stored (walked c) (f .0) (f .1) (nodes c) (f .2) (omega (arith, f .3, c .if1 .left, begun c .pre .1 .0))
+
+all-listed : (c : tie.Else1) → All (Listed (length (begun c .args .weights .now))) (points-found c .0)
+all-listed c =
+    let f = points-found c in
+    listed (walked c .before .before .before .before .before .before .before) (f .0) (f .1) (nodes c) (f .2)
 
 -- ---- the needs
 
@@ -160,17 +190,17 @@ returns-2 c =
 write-first-requires : tie.Need-write-first-requires
 write-first-requires c κs =
     let e = c .before .before .before .before .before .before in
-    let at = e .before .before .before .before .before .before .before in
-    let b = at .before .before .before .before .before .before .before .before .before .before in
+    let b = begun e in
     let a = b .args in
     let p = known b in
-    let k = e .before .before .end2 .given .0 .1 .0 in
-    let own : k ≤ length (a .distances .now) = omega (arith, e .if1 .left) in
-    let first : k ≤ length (a .order .now) = omega (arith, own, b .pre .1 .1 .1 .0) in
-    let second : k ≤ length (a .spare .now) = omega (arith, own, b .pre .1 .1 .1 .1) in
-    let size = mul-le-mul-right (length (a .weights .now)) (within e) in
-    let last : k * length (a .weights .now) ≤ length (a .points .now) = omega (arith, size, shape e, at .list-walk .ensures .1 .1 .1, b .pre .1 .1 .0) in
-    (omega (arith, p .checked .small), (omega (arith, own, p .places), (within e, (shape e, (first, (second, (own, last)))))))
+    let n = length (a .weights .now) in
+    let own : count e ≤ length (a .distances .now) = omega (arith, e .if1 .left) in
+    let first : count e ≤ length (a .order .now) = omega (arith, own, b .pre .1 .1 .1 .0) in
+    let second : count e ≤ length (a .spare .now) = omega (arith, own, b .pre .1 .1 .1 .1) in
+    let size = mul-le-mul-right n (within e) in
+    let last : count e * n ≤ length (a .points .now) = omega (arith, size, shape e, walked e .list-walk .ensures .1 .1 .1, b .pre .1 .1 .0) in
+    let nonneg = stored-nonneg n (count e) (measured e) (vectors e) (points-found e .0) (found-stored e) (all-listed e) (within e) in
+    (omega (arith, p .checked .small), (omega (arith, own, p .places), (within e, (shape e, (nonneg, (first, (second, (own, last))))))))
 
 same-length-5 : tie.Need-same-length-5
 same-length-5 c = search needs
@@ -193,33 +223,24 @@ same-length-10 c = search needs
 returns-3 : tie.Need-returns-3
 returns-3 c =
     let e = c .before .before .before .before .before .before .before .before .before .before .before .before .before .before in
-    let at = e .before .before .before .before .before .before .before in
-    let b = at .before .before .before .before .before .before .before .before .before .before in
+    let b = begun e in
     let a = b .args in
     let t = table (a .weights .now) (a .mu .now) in
-    let n = length (a .weights .now) in
-    let w = listWalk t (a .target .now) (a .radius) (a .budget) in
     let places = length (a .distances .now) in
-    let given = e .before .before .end2 .given in
-    let m = given .0 .0 in
-    let k = given .0 .1 .0 in
-    let f = ending-ended w m k (ending at ∙ given .1) in
-    let D = at .list-walk .last .1 .1 .1 .0 in
-    let P = at .list-walk .last .1 .1 .1 .1 .0 in
+    let f = points-found e in
     let few : length (f .0) ≤ places = omega (arith, f .3, e .if1 .left) in
-    let kept = ap (λ (j : ℕ). rows n j D P) (sym (f .3)) ∙ stored at (f .0) (f .1) m (f .2) (omega (arith, few, b .pre .1 .0)) in
-    let all = listed (at .before .before .before .before .before .before .before) (f .0) (f .1) m (f .2) in
     let q =
     list-checked t (a .target .now) (a .distances .now) (a .points .now) (a .radius) (a .budget) (b .pre .0)
     ∙ ap (endOfList places) (f .2)
-    ∙ list-sorted places (f .0) (f .1) m (le-ltb places (length (f .0)) few)
+    ∙ list-sorted places (f .0) (f .1) (nodes e) (le-ltb places (length (f .0)) few)
     in
-    let r = answer-found (list t (a .target .now) (a .distances .now) (a .points .now) (a .radius) (a .budget)) (a .distances .now) (a .points .now) m (f .0) q in
+    let r = answer-found (list t (a .target .now) (a .distances .now) (a .points .now) (a .radius) (a .budget)) (a .distances .now) (a .points .now) (nodes e) (f .0) q in
+    let same = stored-sorted (length (a .weights .now)) (count e) (measured e) (vectors e) (f .0) (found-stored e) (all-listed e) in
     let done = c .before .before .before .before .before .before .before .write-first .ensures in (
-      ap (λ (j : ℕ). found (record { nodes = m; points = j })) (sym (f .3)) ∙ r .0,
+      ap (λ (k : ℕ). found (record { nodes = nodes e; points = k })) (sym (f .3)) ∙ r .0,
       (
-        done .0 ∙ ap (λ (l : List Float). written l (a .distances .now)) (distances-sorted n k D P (within e) (shape e) (f .0) kept all) ∙ r .1,
-        done .1 ∙ ap (λ (l : List ListPoint). written (coordinates l) (a .points .now)) (found-sorted n k D P (within e) (shape e) (f .0) kept all) ∙ r .2,
+        done .0 ∙ ap (λ (l : List ListPoint). written (map (λ (p : ListPoint). p .distance) l) (a .distances .now)) same ∙ r .1,
+        done .1 ∙ ap (λ (l : List ListPoint). written (coordinates l) (a .points .now)) same ∙ r .2,
       ),
     )
 
