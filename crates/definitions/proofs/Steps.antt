@@ -11,11 +11,9 @@ use Rattle.rounding.specs.Integers.{isI64}
 use Rattle.definitions.specs.Zigzag.{Zigzag, Next, child, none, passesTest, upward, candidate, afterStep, oneStep, secondStep, bothDone, begun, next}
 
 -- ---- the direction turns with each step
-odd-step : (s : ℕ) → eqb (s % 2) 1 ≡ true → s % 2 ≡ 1
-odd-step s e = eqb→eq (s % 2) 1 (subst T (sym e) tt)
-
-even-step : (s : ℕ) → eqb (s % 2) 1 ≡ false → s % 2 ≡ 0
-even-step s e = pick (s % 2) refl
+pub odd-or-even : (s : ℕ) (b : Bool) → eqb (s % 2) 1 ≡ b → s % 2 ≡ cond b 1 0
+odd-or-even s true e = eqb→eq (s % 2) 1 (subst T (sym e) tt)
+odd-or-even s false e = pick (s % 2) refl
   where
     pick : (r : ℕ) → s % 2 ≡ r → s % 2 ≡ 0
     pick zero q = q
@@ -30,8 +28,8 @@ parity-turns b s = go b (eqb (s % 2) 1) (eqb (suc s % 2) 1) refl refl
     go true false true e e' = refl
     go false true false e e' = refl
     go false false true e e' = refl
-    go b true true e e' = let k = odd-step s e in let k' = odd-step (suc s) e' in absurd (omega arith)
-    go b false false e e' = let k = even-step s e in let k' = even-step (suc s) e' in absurd (omega arith)
+    go b true true e e' = let k = odd-or-even s true e in let k' = odd-or-even (suc s) true e' in absurd (omega arith)
+    go b false false e e' = let k = odd-or-even s false e in let k' = odd-or-even (suc s) false e' in absurd (omega arith)
 
 upward-turns : (closedUp closedDown : Bool) (g : Zigzag) → upward (afterStep closedUp closedDown g) ≡ not (upward g)
 unfolding upward
@@ -76,11 +74,11 @@ abbrev pub Final : Next → Type 0
 Final (child z g) = Unit {0}
 Final (none g) = T (bothDone g)
 
-secondStep-child : (z : ℤ) (g : Zigzag) → secondStep (child z g) ≡ child z g
+pub secondStep-child : (z : ℤ) (g : Zigzag) → secondStep (child z g) ≡ child z g
 unfolding secondStep
 secondStep-child z g = refl
 
-secondStep-none : (g : Zigzag) → secondStep (none g) ≡ cond (bothDone g) (none g) (oneStep g)
+pub secondStep-none : (g : Zigzag) → secondStep (none g) ≡ cond (bothDone g) (none g) (oneStep g)
 unfolding secondStep
 secondStep-none g = refl
 
@@ -106,7 +104,7 @@ second-final g (none h) l = subst Final (sym (secondStep-none h)) (go (bothDone 
     go true e = subst T (sym e) tt
     go false e = last (oneStep h) (step-leaves h)
 
-next-is : (g : Zigzag) → next g ≡ cond (g .emittedNearest) (cond (bothDone g) (none g) (secondStep (oneStep g))) (child (g .nearest) (begun g))
+pub next-is : (g : Zigzag) → next g ≡ cond (g .emittedNearest) (cond (bothDone g) (none g) (secondStep (oneStep g))) (child (g .nearest) (begun g))
 unfolding next
 next-is g = refl
 

@@ -6,3 +6,4 @@ pub mod Doubles
 pub mod Found
 pub mod Ordering
 pub mod Endings
+pub mod Buffers

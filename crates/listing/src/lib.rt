@@ -363,7 +363,7 @@ fn list_long(
 }
 
 // The same with at most 32,768 coordinates, enough for all places at n = 8: a shorter array to clear.
-fn list_short(
+fn list_middle(
     weights: &[f64],
     mu: &[f64],
     target: &[f64],
@@ -382,6 +382,41 @@ fn list_short(
     let mut vectors = [0i64; 32768];
     let mut order = [0usize; 4096];
     let mut spare = [0usize; 4096];
+    list_within(
+        weights,
+        mu,
+        target,
+        &mut measured,
+        &mut vectors,
+        &mut order,
+        &mut spare,
+        distances,
+        points,
+        radius,
+        budget,
+    )
+}
+
+// The same with at most 256 places, as the job has them.
+fn list_short(
+    weights: &[f64],
+    mu: &[f64],
+    target: &[f64],
+    distances: &mut [f64],
+    points: &mut [i64],
+    radius: f64,
+    budget: u64,
+) -> ListAnswer
+    requires { ⌜ C.listChecks (table (now weights) (now mu)) (now target) (now distances) (now points) radius budget ≡ pass ⌝ }
+    requires { ⌜ length (now distances) ≤ 256 ⌝ }
+    ensures { λ r. ⌜ answerOf r ≡ countsOf (C.list (table (now (weights .entry)) (now (mu .entry))) (now (target .entry)) (now (distances .entry)) (now (points .entry)) radius budget) ⌝ }
+    ensures { λ r. ⌜ now (distances .exit) ≡ C.listDistances (C.list (table (now (weights .entry)) (now (mu .entry))) (now (target .entry)) (now (distances .entry)) (now (points .entry)) radius budget) (now (distances .entry)) ⌝ }
+    ensures { λ r. ⌜ now (points .exit) ≡ C.listPoints (C.list (table (now (weights .entry)) (now (mu .entry))) (now (target .entry)) (now (distances .entry)) (now (points .entry)) radius budget) (now (points .entry)) ⌝ }
+{
+    let mut measured = [0.0; 256];
+    let mut vectors = [0i64; 5888];
+    let mut order = [0usize; 256];
+    let mut spare = [0usize; 256];
     list_within(
         weights,
         mu,
@@ -422,8 +457,11 @@ pub fn list(
         return ListAnswer::Refused(e);
     }
     let start = handed_on(radius);
-    if points.len() <= 32768 {
+    if distances.len() <= 256 {
         return list_short(weights, mu, target, distances, points, start, budget);
+    }
+    if points.len() <= 32768 {
+        return list_middle(weights, mu, target, distances, points, start, budget);
     }
     list_long(weights, mu, target, distances, points, start, budget)
 }

@@ -9,7 +9,7 @@ use mathlib.Core.Bool.{Bool, true, false, not, _&&_, _||_, Bool·beq}
 use lib.IntN.{ℤ, pos}
 use lib.Dec.{T, eqb, ltb→lt, lt→ltb, eqb→eq, not-T, T-not}
 use lib.Ieee.{Float, nan, inf, fin, Format, up, down, below, level, le, lt, eq, fits, isNan}
-use lib.Ieee.Fits.{down-pos, and-i, and-l, and-r, eq→eqb, inf-fits}
+use lib.Ieee.Fits.{down-pos, and-i, and-l, and-r, eq→eqb, inf-fits, nan-fits}
 use lib.Ieee.Scale.{overflow, finite}
 use Rattle.rounding.specs.Doubles.{negative}
 use Rattle.rounding.proofs.Scaled.{scale, scaled, scale-pos, overflow-pos, split, scaled-exact, scaled-lt, scaled-le, scaled-zero}
@@ -37,6 +37,10 @@ pub record Weight (f : Format) (x : Float) : Type 0 where
   pub fin : T (finite x)
   pub plus : negative x ≡ false
   pub some : 0 < scaled f x
+
+-- a NaN fits too, and is none of these
+pub nan-fit : (f : Format) → T (fits f nan)
+nan-fit f = nan-fits f
 
 pub number : {f : Format} {x : Float} → Finite f x → Number f x
 number {f} {x} p = record { fit = p .fit; num = go x (p .fin) }

@@ -11,6 +11,7 @@ use lib.Dec.{T, T-not, lit<, lit≤}
 use lib.Pow.{pow-add, pow-pos, pow-lt, pow-mono}
 use lib.Ieee.{Float, nan, inf, fin, Format, binary32, binary64, prec, low, unlike, size, round, add, mul, lt, ofInt, fits, isNan}
 use lib.Ieee.Digits.{size-lt, size-reaches}
+use lib.Ieee.Fits.{add-fits}
 use lib.Ieee.Scale.{overflow}
 use Rattle.rounding.specs.Doubles.{negative, larger}
 use Rattle.rounding.proofs.Scaled.{scale, scaled, scale-pos, scale-scale-pos, one-digit, split, scaled-exact, scaled-power}
@@ -220,6 +221,10 @@ larger-one f r p h = go (lt r one) (isNan r) (lt→ord f (number p) (number (one
 -- r + (2^-52·max(r, 1))·4n
 abbrev pub widened : ℕ → Float → Float
 widened n r = add binary64 r (mul binary64 (mul binary64 eps (larger r one)) (ofInt binary64 (pos (4 * n))))
+
+-- a double, whatever the radius
+pub widening-fits : (n : ℕ) (r : Float) → T (fits binary64 (widened n r))
+widening-fits n r = add-fits binary64 r _
 
 bounds : (n b : ℕ) → 0 < n → n ≤ 64 → 256 ≤ b → (4 ≤ 4 * n) × (4 * n ≤ b)
 bounds n b h k l = (omega arith, omega arith)

@@ -8,10 +8,10 @@ use native.Mathlib.Omega.{arith}
 use lib.Dec.{T}
 use lib.ListN.{length, getD}
 use lib.Ieee.{Float, nan, binary64, fits, lt}
-use lib.Ieee.Fits.{and-l, and-r, nan-fits}
+use lib.Ieee.Fits.{and-l, and-r}
 use lib.Ieee.Scale.{finite}
 use Rattle.rounding.specs.Doubles.{magnitude}
-use Rattle.rounding.proofs.Value.{Weight}
+use Rattle.rounding.proofs.Value.{Weight, nan-fit}
 use Rattle.rounding.proofs.PowerBounds.{Within}
 use Rattle.rounding.proofs.Tests.{within-not-above, weight-of}
 use Rattle.definitions.specs.Table.{Table, dimension, coordinate, plusZero, coordLimit}
@@ -23,7 +23,7 @@ use Rattle.theorems.proofs.Limits.{Limits}
 -- every place of a list of doubles is a double
 double-at : (xs : List Float) → T (allDoubles xs) → (k : ℕ) → T (fits binary64 (getD xs k nan))
 unfolding allDoubles
-double-at [] d k = nan-fits binary64
+double-at [] d k = nan-fit binary64
 double-at (x ∷ xs) d zero = and-l (fits binary64 x) (allDoubles xs) d
 double-at (x ∷ xs) d (suc k) = double-at xs (and-r (fits binary64 x) (allDoubles xs) d) k
 

@@ -12,7 +12,8 @@ use lib.Ieee.{Float, le}
 use lib.Ieee.Fits.{and-l}
 use Rattle.rounding.specs.Integers.{isI64, roundAway}
 use Rattle.definitions.specs.Distance.{term}
-use Rattle.definitions.specs.Zigzag.{Zigzag, Next, child, none, open-level, no-children, start, fresh, oneStep, secondStep, bothDone, next}
+use Rattle.definitions.specs.Zigzag.{Zigzag, Next, child, none, open-level, no-children, start, fresh, oneStep, secondStep, next}
+use Rattle.definitions.proofs.Steps.{secondStep-child, secondStep-none, next-is}
 use Rattle.theorems.specs.Children.{childrenFrom, childrenOf, children, stepLimit, upwardAt, zigzagAt, isChild}
 use Rattle.theorems.proofs.Booleans.{of-true, refuted}
 use Rattle.theorems.proofs.Zigzags.{at-limit}
@@ -29,18 +30,6 @@ isChild-is c r w z = refl
 step-is : (c r w : Float) (s : ℕ) (u d : Bool) → oneStep (generator c r w s u d) ≡ cond (cond (upwardAt c s) u d) (none (generator c r w (suc s) u d)) (cond (isChild c r w (zigzagAt c s)) (child (zigzagAt c s) (generator c r w (suc s) u d)) (none (generator c r w (suc s) (upwardAt c s || u) (not (upwardAt c s) || d))))
 unfolding oneStep upwardAt zigzagAt isChild
 step-is c r w s u d = refl
-
-second-child : (z : ℤ) (g : Zigzag) → secondStep (child z g) ≡ child z g
-unfolding secondStep
-second-child z g = refl
-
-second-none : (g : Zigzag) → secondStep (none g) ≡ cond (bothDone g) (none g) (oneStep g)
-unfolding secondStep
-second-none g = refl
-
-next-is : (c r w : Float) (s : ℕ) (u d : Bool) → next (generator c r w s u d) ≡ cond (u && d) (none (generator c r w s u d)) (secondStep (oneStep (generator c r w s u d)))
-unfolding next
-next-is c r w s u d = refl
 
 next-fresh : (c r w : Float) → next (fresh c r w) ≡ child (roundAway c) (generator c r w 1 false false)
 unfolding next fresh
@@ -122,17 +111,17 @@ module _ (c r w : Float) (Closed : ℕ → Bool → Bool → Type 0) (Missed : �
   from-step s k u d b (none g) h = (suc k, h .1, h .2, between-more s k b (h .0), h .3, h .4)
 
   second-ok : (s : ℕ) (u d : Bool) (x : Next) → Stepped s u d x → Nexted s (secondStep x)
-  second-ok s u d (child z g) h = subst (Nexted s) (sym (second-child z g)) (from-step s s u d (between-none s) (child z g) h)
+  second-ok s u d (child z g) h = subst (Nexted s) (sym (secondStep-child z g)) (from-step s s u d (between-none s) (child z g) h)
   second-ok s u d (none g) h =
       subst (λ (y : Zigzag). Nexted s (secondStep (none y))) (sym (h .3))
-      (subst (Nexted s) (sym (second-none (generator c r w (suc s) (h .1) (h .2)))) (go (h .1 && h .2)))
+      (subst (Nexted s) (sym (secondStep-none (generator c r w (suc s) (h .1) (h .2)))) (go (h .1 && h .2)))
     where
       go : (b : Bool) → Nexted s (cond b (none (generator c r w (suc s) (h .1) (h .2))) (oneStep (generator c r w (suc s) (h .1) (h .2))))
       go true = (suc s, h .1, h .2, between-one s (h .0), refl, h .4)
       go false = from-step s (suc s) (h .1) (h .2) (between-one s (h .0)) (oneStep (generator c r w (suc s) (h .1) (h .2))) (step-ok (suc s) (h .1) (h .2) (h .4))
 
   pub next-ok : (s : ℕ) (u d : Bool) → Closed s u d → Nexted s (next (generator c r w s u d))
-  next-ok s u d k = subst (Nexted s) (sym (next-is c r w s u d)) (go (u && d))
+  next-ok s u d k = subst (Nexted s) (sym (next-is (generator c r w s u d))) (go (u && d))
     where
       go : (b : Bool) → Nexted s (cond b (none (generator c r w s u d)) (secondStep (oneStep (generator c r w s u d))))
       go true = (s, u, d, between-none s, refl, k)

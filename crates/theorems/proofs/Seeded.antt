@@ -11,12 +11,12 @@ use lib.ListN.{length}
 use lib.IntN.{ℤ, pos}
 use lib.Ieee.{Float, binary64, le, lt, fits}
 use lib.Ieee.Scale.{finite}
-use lib.Ieee.Fits.{and-i, add-fits}
+use lib.Ieee.Fits.{and-i}
 use Rattle.rounding.specs.Integers.{roundAway}
 use Rattle.rounding.proofs.Value.{Number, Finite, number, mid, ord, ord-zero, lt→ord, ord→lt, le→ord, not-lt→le, float-le-refl, nonneg-mid}
 use Rattle.rounding.proofs.Tests.{mid-of-not-lt}
 use Rattle.rounding.proofs.RoundAway.{roundAway-isI64}
-use Rattle.rounding.proofs.Widening.{widened as widenedBy, widening-above}
+use Rattle.rounding.proofs.Widening.{widened as widenedBy, widening-above, widening-fits}
 use Rattle.definitions.specs.Table.{Table, dimension, coordinate, plusZero}
 use Rattle.definitions.specs.Distance.{center, distance}
 use Rattle.definitions.specs.Admitted.{allI64, isVector, passes, admitted, opened}
@@ -72,7 +72,7 @@ widened-is n R = refl
 
 -- it is a double, whatever the radius
 pub widened-double : (n : ℕ) (R : Float) → T (fits binary64 (widened n R))
-widened-double n R = subst (λ (x : Float). T (fits binary64 x)) (sym (widened-is n R)) (add-fits binary64 R _)
+widened-double n R = subst (λ (x : Float). T (fits binary64 x)) (sym (widened-is n R)) (widening-fits n R)
 
 module _ (t : Table) (target : List Float) (limits : Limits t target) (R : Float) (fin : Finite binary64 R) (plus : T (not (lt R plusZero))) (wide : Finite binary64 (widened (dimension t) R)) where
   above : 0 < dimension t → ord binary64 R < ord binary64 (widened (dimension t) R)

@@ -4,14 +4,14 @@ use Prim.Native.Nat.{ℕ, zero, suc, _+_, _-_, _/_, _%_, _^_, _≤_, _<_}
 use native.Mathlib.Nat.{le-refl, le-dest, add-zero, add-suc}
 use native.Mathlib.Omega.{arith}
 use mathlib.Core.Bool.{Bool, true, false, Bool·beq, cond, true≢false, false≢true}
-use lib.Dec.{T, eqb, ltb, eqb→eq, ltb→lt, nltb→le}
-use lib.Ieee.Fits.{eq→eqb}
+use lib.Dec.{T, eqb, ltb, ltb→lt, nltb→le}
 use lib.IntN.{ℤ, pos, negsuc, sucℤ, predℤ, negℤ, _+ℤ_, _-ℤ_, +ℤ-sucℤ, +ℤ-predℤ, +ℤ-idr, +ℤ-assoc, +ℤ-comm, +ℤ-invl, +ℤ-idl, -ℤ-+ℤ-cancel}
 use lib.Signed.{leZ, mag}
 use lib.Ieee.{Float, le}
 use Rattle.rounding.specs.Integers.{toDouble, roundAway, isI64}
 use Rattle.rounding.proofs.Integers.{leZ-refl, leZ-trans, leZ-suc, leZ-pred}
 use Rattle.rounding.proofs.RoundAway.{roundAway-isI64}
+use Rattle.definitions.proofs.Steps.{odd-or-even}
 use Rattle.theorems.specs.Children.{upwardAt, zigzagAt, stepLimit}
 use Rattle.theorems.proofs.Booleans.{of-true, of-false}
 
@@ -81,15 +81,6 @@ minus-bound H (pos x) (suc a) h k = go (ltb x (suc a)) refl k
     go false e k = let l = nltb→le x (suc a) (of-false e) in omega arith
 
 -- ---- parity
-odd-or-even : (s : ℕ) (b : Bool) → eqb (s % 2) 1 ≡ b → s % 2 ≡ cond b 1 0
-odd-or-even s true e = eqb→eq (s % 2) 1 (of-true e)
-odd-or-even s false e = pick (s % 2) refl
-  where
-    pick : (r : ℕ) → s % 2 ≡ r → s % 2 ≡ 0
-    pick zero q = q
-    pick (suc zero) q = absurd (subst T e (eq→eqb q))
-    pick (suc (suc r)) q = omega arith
-
 same-parity : (j k : ℕ) (b : Bool) → Bool·beq (eqb (j % 2) 1) b ≡ Bool·beq (eqb (k % 2) 1) b → j % 2 ≡ k % 2
 same-parity j k b e = go (eqb (j % 2) 1) (eqb (k % 2) 1) refl refl b e
   where

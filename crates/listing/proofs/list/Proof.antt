@@ -1,5 +1,7 @@
--- `list` meets its contract: a refusal of its checks leaves both slices, and a pass goes on to arrays of either size. Assumes nothing.
-use mathlib.Core.Path.{_≡_, ap, sym, _∙_}
+-- `list` meets its contract: a refusal of its checks leaves both slices, and a pass goes on to arrays of one of three sizes. Assumes nothing.
+use mathlib.Core.Path.{_≡_, ap, sym, _∙_, subst}
+use mathlib.Core.List.{List}
+use lib.IntN.{ℤ}
 use lib.Ieee.{Float}
 use borrow.Author.Needs.{needs}
 use Rattle.definitions.specs.Table.{table}
@@ -7,7 +9,8 @@ use Rattle.definitions.specs.Checks.{pass}
 use Rattle.definitions.specs.Calls as C
 use Rattle.definitions.proofs.Answers.{list-refused}
 use Rattle.refusals.specs.Numbers.{verdict, numbered}
-use Rattle.listing.specs.View.{countsOf}
+use Rattle.listing.specs.View.{answerOf, countsOf}
+use Rattle.listing.specs.declared.ListAnswer.{ListAnswer}
 use Rattle.listing.proofs.Endings.{answer-refused}
 use Rattle.listing.proofs.list.Statement.{statement}
 use Rattle.listing.proofs.list.Tie as tie
@@ -29,6 +32,16 @@ same : (c : tie.After-handed-on) →
 same c =
     let a = c .before .before .before .before .before .before .before .before .before .before .args in
     ap (λ (R : Float). C.list (table (a .weights .now) (a .mu .now)) (a .target .now) (a .distances .now) (a .points .now) R (a .budget)) (c .handed-on .ensures)
+
+-- what a call says at the radius handed on, it says at the radius
+handed : (c : tie.After-handed-on) (r : ListAnswer) (ds : List Float) (ps : List ℤ) →
+    let a = c .before .before .before .before .before .before .before .before .before .before .args in
+    let said : C.Answer C.ListAnswer → Type 0 = λ l. (answerOf r ≡ countsOf l) × ((ds ≡ C.listDistances l (a .distances .now)) × (ps ≡ C.listPoints l (a .points .now))) in
+    let t = table (a .weights .now) (a .mu .now) in
+    said (C.list t (a .target .now) (a .distances .now) (a .points .now) (c .handed-on .result) (a .budget)) → said (C.list t (a .target .now) (a .distances .now) (a .points .now) (a .radius) (a .budget))
+handed c r ds ps h =
+    let a = c .before .before .before .before .before .before .before .before .before .before .args in
+    subst (λ (l : C.Answer C.ListAnswer). (answerOf r ≡ countsOf l) × ((ds ≡ C.listDistances l (a .distances .now)) × (ps ≡ C.listPoints l (a .points .now)))) (same c) h
 
 list-check-requires : tie.Need-list-check-requires
 list-check-requires c κs = search needs
@@ -70,18 +83,10 @@ same-length-4 c = search needs
 returns-2 : tie.Need-returns-2
 returns-2 c =
     let done = c .before .before .before in
-    let start = done .before .before .before .before in
-    let a = start .before .before .before .before .before .before .before .before .before .before .args in
-    let e = same start in (
-      done .list-short .ensures .0 ∙ ap countsOf e,
-      (
-        done .list-short .ensures .1 .0 ∙ ap (λ (r : C.Answer C.ListAnswer). C.listDistances r (a .distances .now)) e,
-        done .list-short .ensures .1 .1 ∙ ap (λ (r : C.Answer C.ListAnswer). C.listPoints r (a .points .now)) e,
-      ),
-    )
+    handed (done .before .before .before .before) (done .list-short .result) _ _ (done .list-short .ensures)
 
-list-long-requires : tie.Need-list-long-requires
-list-long-requires c κs = passed (c .before .before .before)
+list-middle-requires : tie.Need-list-middle-requires
+list-middle-requires c κs = (passed (c .before .before .before .before), c .before .before .if2 .taken)
 
 same-length-5 : tie.Need-same-length-5
 same-length-5 c = search needs
@@ -92,15 +97,21 @@ same-length-6 c = search needs
 returns-3 : tie.Need-returns-3
 returns-3 c =
     let done = c .before .before .before in
-    let start = done .before .before .before .before in
-    let a = start .before .before .before .before .before .before .before .before .before .before .args in
-    let e = same start in (
-      done .list-long .ensures .0 ∙ ap countsOf e,
-      (
-        done .list-long .ensures .1 .0 ∙ ap (λ (r : C.Answer C.ListAnswer). C.listDistances r (a .distances .now)) e,
-        done .list-long .ensures .1 .1 ∙ ap (λ (r : C.Answer C.ListAnswer). C.listPoints r (a .points .now)) e,
-      ),
-    )
+    handed (done .before .before .before .before .before) (done .list-middle .result) _ _ (done .list-middle .ensures)
+
+list-long-requires : tie.Need-list-long-requires
+list-long-requires c κs = passed (c .before .before .before .before)
+
+same-length-7 : tie.Need-same-length-7
+same-length-7 c = search needs
+
+same-length-8 : tie.Need-same-length-8
+same-length-8 c = search needs
+
+returns-4 : tie.Need-returns-4
+returns-4 c =
+    let done = c .before .before .before in
+    handed (done .before .before .before .before .before) (done .list-long .result) _ _ (done .list-long .ensures)
 
 pub list-spec : {M : Type 1} → statement M
 list-spec =
@@ -117,7 +128,11 @@ list-spec =
     same-length-3
     same-length-4
     returns-2
-    list-long-requires
+    list-middle-requires
     same-length-5
     same-length-6
-    returns-3)
+    returns-3
+    list-long-requires
+    same-length-7
+    same-length-8
+    returns-4)

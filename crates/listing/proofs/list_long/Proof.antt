@@ -1,10 +1,7 @@
 -- `list_long` meets its contract: its arrays are long enough for every list that passes. Assumes nothing.
-use Prim.Native.Nat.{_≤_}
-use native.Mathlib.Nat.{mul-le-mul}
-use native.Mathlib.Omega.{arith}
-use lib.ListN.{length}
 use Rattle.definitions.specs.Table.{table}
 use Rattle.definitions.proofs.Passed.{list-passed}
+use Rattle.listing.proofs.Buffers.{points-fit}
 use borrow.Author.Needs.{needs}
 use Rattle.listing.proofs.list_long.Statement.{statement}
 use Rattle.listing.proofs.list_long.Tie as tie
@@ -25,9 +22,9 @@ list-within-requires : tie.Need-list-within-requires
 list-within-requires c κs =
     let b = c .before .before .before .before .before .before .before .before .before .before in
     let a = b .args in
-    let k = list-passed (table (a .weights .now) (a .mu .now)) (a .target .now) (a .distances .now) (a .points .now) (a .radius) (a .budget) (b .pre) in
-    let fit : length (a .points .now) ≤ 94208 = omega (arith, k .room, mul-le-mul (k .checked .small) (k .places)) in
-    (b .pre, (k .places, (fit, (k .places, k .places))))
+    let few = list-passed (table (a .weights .now) (a .mu .now)) (a .target .now) (a .distances .now) (a .points .now) (a .radius) (a .budget) (b .pre) .places in
+    let fit = points-fit 4096 (table (a .weights .now) (a .mu .now)) (a .target .now) (a .distances .now) (a .points .now) (a .radius) (a .budget) (b .pre) few in
+    (b .pre, (few, (fit, (few, few))))
 
 same-length : tie.Need-same-length
 same-length c = search needs

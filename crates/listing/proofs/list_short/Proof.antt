@@ -1,6 +1,6 @@
--- `list_short` meets its contract: its arrays are long enough for every list that passes with so few coordinates. Assumes nothing.
+-- `list_short` meets its contract: after a pass its arrays are long enough for at most 256 places. Assumes nothing.
 use Rattle.definitions.specs.Table.{table}
-use Rattle.definitions.proofs.Passed.{list-passed}
+use Rattle.listing.proofs.Buffers.{points-fit}
 use borrow.Author.Needs.{needs}
 use Rattle.listing.proofs.list_short.Statement.{statement}
 use Rattle.listing.proofs.list_short.Tie as tie
@@ -21,8 +21,9 @@ list-within-requires : tie.Need-list-within-requires
 list-within-requires c κs =
     let b = c .before .before .before .before .before .before .before .before .before .before in
     let a = b .args in
-    let few = list-passed (table (a .weights .now) (a .mu .now)) (a .target .now) (a .distances .now) (a .points .now) (a .radius) (a .budget) (b .pre .0) .places in
-    (b .pre .0, (few, (b .pre .1, (few, few))))
+    let few = b .pre .1 in
+    let fit = points-fit 256 (table (a .weights .now) (a .mu .now)) (a .target .now) (a .distances .now) (a .points .now) (a .radius) (a .budget) (b .pre .0) few in
+    (b .pre .0, (few, (fit, (few, few))))
 
 same-length : tie.Need-same-length
 same-length c = search needs
