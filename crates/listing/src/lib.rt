@@ -16,7 +16,7 @@ ghost use Rattle.refusals.specs.Numbers.{verdict};
 ghost use Rattle.sorting.specs.All.{All};
 ghost use Rattle.sorting.specs.Rows.{row, rows};
 ghost use Rattle.sorting.specs.Indices.{AllBelow};
-ghost use Rattle.listing.specs.View.{answerOf, countsOf, endingOf};
+ghost use Rattle.listing.specs.View.{answerOf, countsOf, endingOf, Answered};
 use checks::budget_check;
 use checks::handed_on;
 use checks::length_check;
@@ -257,9 +257,7 @@ fn list_into(
     requires { ⌜ length (now vectors) ≡ length (now points) ⌝ }
     requires { ⌜ length (now order) ≡ length (now distances) ⌝ }
     requires { ⌜ length (now spare) ≡ length (now distances) ⌝ }
-    ensures { λ r. ⌜ answerOf r ≡ countsOf (C.list (table (now (weights .entry)) (now (mu .entry))) (now (target .entry)) (now (distances .entry)) (now (points .entry)) radius budget) ⌝ }
-    ensures { λ r. ⌜ now (distances .exit) ≡ C.listDistances (C.list (table (now (weights .entry)) (now (mu .entry))) (now (target .entry)) (now (distances .entry)) (now (points .entry)) radius budget) (now (distances .entry)) ⌝ }
-    ensures { λ r. ⌜ now (points .exit) ≡ C.listPoints (C.list (table (now (weights .entry)) (now (mu .entry))) (now (target .entry)) (now (distances .entry)) (now (points .entry)) radius budget) (now (points .entry)) ⌝ }
+    ensures { λ r. ⌜ Answered (C.list (table (now (weights .entry)) (now (mu .entry))) (now (target .entry)) (now (distances .entry)) (now (points .entry)) radius budget) (now (distances .entry)) (now (points .entry)) r (now (distances .exit)) (now (points .exit)) ⌝ }
 {
     let n = weights.len();
     let end = list_walk(weights, mu, target, measured, vectors, radius, budget);
@@ -307,9 +305,7 @@ fn list_within(
     requires { ⌜ length (now points) ≤ length (now vectors) ⌝ }
     requires { ⌜ length (now distances) ≤ length (now order) ⌝ }
     requires { ⌜ length (now distances) ≤ length (now spare) ⌝ }
-    ensures { λ r. ⌜ answerOf r ≡ countsOf (C.list (table (now (weights .entry)) (now (mu .entry))) (now (target .entry)) (now (distances .entry)) (now (points .entry)) radius budget) ⌝ }
-    ensures { λ r. ⌜ now (distances .exit) ≡ C.listDistances (C.list (table (now (weights .entry)) (now (mu .entry))) (now (target .entry)) (now (distances .entry)) (now (points .entry)) radius budget) (now (distances .entry)) ⌝ }
-    ensures { λ r. ⌜ now (points .exit) ≡ C.listPoints (C.list (table (now (weights .entry)) (now (mu .entry))) (now (target .entry)) (now (distances .entry)) (now (points .entry)) radius budget) (now (points .entry)) ⌝ }
+    ensures { λ r. ⌜ Answered (C.list (table (now (weights .entry)) (now (mu .entry))) (now (target .entry)) (now (distances .entry)) (now (points .entry)) radius budget) (now (distances .entry)) (now (points .entry)) r (now (distances .exit)) (now (points .exit)) ⌝ }
 {
     let places = distances.len();
     let size = points.len();
@@ -339,9 +335,7 @@ fn list_long(
     budget: u64,
 ) -> ListAnswer
     requires { ⌜ C.listChecks (table (now weights) (now mu)) (now target) (now distances) (now points) radius budget ≡ pass ⌝ }
-    ensures { λ r. ⌜ answerOf r ≡ countsOf (C.list (table (now (weights .entry)) (now (mu .entry))) (now (target .entry)) (now (distances .entry)) (now (points .entry)) radius budget) ⌝ }
-    ensures { λ r. ⌜ now (distances .exit) ≡ C.listDistances (C.list (table (now (weights .entry)) (now (mu .entry))) (now (target .entry)) (now (distances .entry)) (now (points .entry)) radius budget) (now (distances .entry)) ⌝ }
-    ensures { λ r. ⌜ now (points .exit) ≡ C.listPoints (C.list (table (now (weights .entry)) (now (mu .entry))) (now (target .entry)) (now (distances .entry)) (now (points .entry)) radius budget) (now (points .entry)) ⌝ }
+    ensures { λ r. ⌜ Answered (C.list (table (now (weights .entry)) (now (mu .entry))) (now (target .entry)) (now (distances .entry)) (now (points .entry)) radius budget) (now (distances .entry)) (now (points .entry)) r (now (distances .exit)) (now (points .exit)) ⌝ }
 {
     let mut measured = [0.0; 4096];
     let mut vectors = [0i64; 94208];
@@ -374,9 +368,7 @@ fn list_middle(
 ) -> ListAnswer
     requires { ⌜ C.listChecks (table (now weights) (now mu)) (now target) (now distances) (now points) radius budget ≡ pass ⌝ }
     requires { ⌜ length (now points) ≤ 32768 ⌝ }
-    ensures { λ r. ⌜ answerOf r ≡ countsOf (C.list (table (now (weights .entry)) (now (mu .entry))) (now (target .entry)) (now (distances .entry)) (now (points .entry)) radius budget) ⌝ }
-    ensures { λ r. ⌜ now (distances .exit) ≡ C.listDistances (C.list (table (now (weights .entry)) (now (mu .entry))) (now (target .entry)) (now (distances .entry)) (now (points .entry)) radius budget) (now (distances .entry)) ⌝ }
-    ensures { λ r. ⌜ now (points .exit) ≡ C.listPoints (C.list (table (now (weights .entry)) (now (mu .entry))) (now (target .entry)) (now (distances .entry)) (now (points .entry)) radius budget) (now (points .entry)) ⌝ }
+    ensures { λ r. ⌜ Answered (C.list (table (now (weights .entry)) (now (mu .entry))) (now (target .entry)) (now (distances .entry)) (now (points .entry)) radius budget) (now (distances .entry)) (now (points .entry)) r (now (distances .exit)) (now (points .exit)) ⌝ }
 {
     let mut measured = [0.0; 4096];
     let mut vectors = [0i64; 32768];
@@ -409,9 +401,7 @@ fn list_short(
 ) -> ListAnswer
     requires { ⌜ C.listChecks (table (now weights) (now mu)) (now target) (now distances) (now points) radius budget ≡ pass ⌝ }
     requires { ⌜ length (now distances) ≤ 256 ⌝ }
-    ensures { λ r. ⌜ answerOf r ≡ countsOf (C.list (table (now (weights .entry)) (now (mu .entry))) (now (target .entry)) (now (distances .entry)) (now (points .entry)) radius budget) ⌝ }
-    ensures { λ r. ⌜ now (distances .exit) ≡ C.listDistances (C.list (table (now (weights .entry)) (now (mu .entry))) (now (target .entry)) (now (distances .entry)) (now (points .entry)) radius budget) (now (distances .entry)) ⌝ }
-    ensures { λ r. ⌜ now (points .exit) ≡ C.listPoints (C.list (table (now (weights .entry)) (now (mu .entry))) (now (target .entry)) (now (distances .entry)) (now (points .entry)) radius budget) (now (points .entry)) ⌝ }
+    ensures { λ r. ⌜ Answered (C.list (table (now (weights .entry)) (now (mu .entry))) (now (target .entry)) (now (distances .entry)) (now (points .entry)) radius budget) (now (distances .entry)) (now (points .entry)) r (now (distances .exit)) (now (points .exit)) ⌝ }
 {
     let mut measured = [0.0; 256];
     let mut vectors = [0i64; 5888];

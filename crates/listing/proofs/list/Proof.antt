@@ -5,43 +5,42 @@ use lib.IntN.{ℤ}
 use lib.Ieee.{Float}
 use borrow.Author.Needs.{needs}
 use Rattle.definitions.specs.Table.{table}
-use Rattle.definitions.specs.Checks.{pass}
+use Rattle.definitions.specs.Checks.{Verdict, pass}
 use Rattle.definitions.specs.Calls as C
 use Rattle.definitions.proofs.Answers.{list-refused}
 use Rattle.refusals.specs.Numbers.{verdict, numbered}
-use Rattle.listing.specs.View.{answerOf, countsOf}
+use Rattle.listing.specs.View.{answerOf, countsOf, Answered}
 use Rattle.listing.specs.declared.ListAnswer.{ListAnswer}
 use Rattle.listing.proofs.Endings.{answer-refused}
 use Rattle.listing.proofs.list.Statement.{statement}
 use Rattle.listing.proofs.list.Tie as tie
 
--- the checks pass at the radius handed on
-passed : (c : tie.After-handed-on) →
-    let a = c .before .before .before .before .before .before .before .before .before .before .args in
-    C.listChecks (table (a .weights .now) (a .mu .now)) (a .target .now) (a .distances .now) (a .points .now) (c .handed-on .result) (a .budget) ≡ pass
-passed c =
-    let a = c .before .before .before .before .before .before .before .before .before .before .args in
-    ap (λ (R : Float). C.listChecks (table (a .weights .now) (a .mu .now)) (a .target .now) (a .distances .now) (a .points .now) R (a .budget)) (c .handed-on .ensures)
-    ∙ sym (c .before .before .before .list-check .ensures)
-    ∙ ap verdict (c .before .enum-told .given .1)
+-- ---- once the radius is handed on
+module _ (c : tie.After-handed-on) where
+  abbrev begun : tie.Start
+  begun = c .before .before .before .before .before .before .before .before .before .before
 
--- the answer at the radius handed on is the one at the radius
-same : (c : tie.After-handed-on) →
-    let a = c .before .before .before .before .before .before .before .before .before .before .args in
-    C.list (table (a .weights .now) (a .mu .now)) (a .target .now) (a .distances .now) (a .points .now) (c .handed-on .result) (a .budget) ≡ C.list (table (a .weights .now) (a .mu .now)) (a .target .now) (a .distances .now) (a .points .now) (a .radius) (a .budget)
-same c =
-    let a = c .before .before .before .before .before .before .before .before .before .before .args in
-    ap (λ (R : Float). C.list (table (a .weights .now) (a .mu .now)) (a .target .now) (a .distances .now) (a .points .now) R (a .budget)) (c .handed-on .ensures)
+  -- the slices at entry
+  abbrev own : List Float
+  own = begun .args .distances .now
 
--- what a call says at the radius handed on, it says at the radius
-handed : (c : tie.After-handed-on) (r : ListAnswer) (ds : List Float) (ps : List ℤ) →
-    let a = c .before .before .before .before .before .before .before .before .before .before .args in
-    let said : C.Answer C.ListAnswer → Type 0 = λ l. (answerOf r ≡ countsOf l) × ((ds ≡ C.listDistances l (a .distances .now)) × (ps ≡ C.listPoints l (a .points .now))) in
-    let t = table (a .weights .now) (a .mu .now) in
-    said (C.list t (a .target .now) (a .distances .now) (a .points .now) (c .handed-on .result) (a .budget)) → said (C.list t (a .target .now) (a .distances .now) (a .points .now) (a .radius) (a .budget))
-handed c r ds ps h =
-    let a = c .before .before .before .before .before .before .before .before .before .before .args in
-    subst (λ (l : C.Answer C.ListAnswer). (answerOf r ≡ countsOf l) × ((ds ≡ C.listDistances l (a .distances .now)) × (ps ≡ C.listPoints l (a .points .now)))) (same c) h
+  abbrev coordinates : List ℤ
+  coordinates = begun .args .points .now
+
+  abbrev checksAt : Float → Verdict
+  checksAt R = let a = begun .args in C.listChecks (table (a .weights .now) (a .mu .now)) (a .target .now) own coordinates R (a .budget)
+
+  abbrev answerAt : Float → C.Answer C.ListAnswer
+  answerAt R = let a = begun .args in C.list (table (a .weights .now) (a .mu .now)) (a .target .now) own coordinates R (a .budget)
+
+  passed : checksAt (c .handed-on .result) ≡ pass
+  passed = ap checksAt (c .handed-on .ensures) ∙ sym (c .before .before .before .list-check .ensures) ∙ ap verdict (c .before .enum-told .given .1)
+
+  -- what a call says at that radius, it says at the radius given
+  handed : (r : ListAnswer) (ds : List Float) (ps : List ℤ) → Answered (answerAt (c .handed-on .result)) own coordinates r ds ps → (answerOf r ≡ countsOf (answerAt (begun .args .radius))) × ((ds ≡ C.listDistances (answerAt (begun .args .radius)) own) × (ps ≡ C.listPoints (answerAt (begun .args .radius)) coordinates))
+  handed r ds ps h =
+      let k = subst (λ (R : Float). Answered (answerAt R) own coordinates r ds ps) (c .handed-on .ensures) h in
+      (k .tells, (k .writes-distances, k .writes-points))
 
 list-check-requires : tie.Need-list-check-requires
 list-check-requires c κs = search needs

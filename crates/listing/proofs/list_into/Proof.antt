@@ -154,7 +154,7 @@ returns c =
     let e = ending-exhausted w m S (ending at ∙ c .before .end .given .1) in
     let q = list-checked t (a .target .now) (a .distances .now) (a .points .now) (a .radius) (a .budget) (b .pre .0) ∙ ap (endOfList (length (a .distances .now))) e ∙ list-exhausted (length (a .distances .now)) m S in
     let r = answer-refused (list t (a .target .now) (a .distances .now) (a .points .now) (a .radius) (a .budget)) (a .distances .now) (a .points .now) (budgetExhausted m S) q in
-    (r .0, (r .1, r .2))
+    record { tells = r .0; writes-distances = r .1; writes-points = r .2 }
 
 enum-known-end-2 : tie.Need-enum-known-end-2
 enum-known-end-2 c = search needs
@@ -185,7 +185,7 @@ returns-2 c =
     ∙ ap (λ (j : ℕ). refused (listFull j)) (f .3)
     in
     let r = answer-refused (list t (a .target .now) (a .distances .now) (a .points .now) (a .radius) (a .budget)) (a .distances .now) (a .points .now) (listFull k) q in
-    (r .0, (r .1, r .2))
+    record { tells = r .0; writes-distances = r .1; writes-points = r .2 }
 
 write-first-requires : tie.Need-write-first-requires
 write-first-requires c κs =
@@ -236,13 +236,12 @@ returns-3 c =
     in
     let r = answer-found (list t (a .target .now) (a .distances .now) (a .points .now) (a .radius) (a .budget)) (a .distances .now) (a .points .now) (nodes e) (f .0) q in
     let same = stored-sorted (length (a .weights .now)) (count e) (measured e) (vectors e) (f .0) (found-stored e) (all-listed e) in
-    let done = c .before .before .before .before .before .before .before .write-first .ensures in (
-      ap (λ (k : ℕ). found (record { nodes = nodes e; points = k })) (sym (f .3)) ∙ r .0,
-      (
-        done .0 ∙ ap (λ (l : List ListPoint). written (map (λ (p : ListPoint). p .distance) l) (a .distances .now)) same ∙ r .1,
-        done .1 ∙ ap (λ (l : List ListPoint). written (coordinates l) (a .points .now)) same ∙ r .2,
-      ),
-    )
+    let done = c .before .before .before .before .before .before .before .write-first .ensures in
+    record {
+      tells = ap (λ (k : ℕ). found (record { nodes = nodes e; points = k })) (sym (f .3)) ∙ r .0;
+      writes-distances = done .0 ∙ ap (λ (l : List ListPoint). written (map (λ (p : ListPoint). p .distance) l) (a .distances .now)) same ∙ r .1;
+      writes-points = done .1 ∙ ap (λ (l : List ListPoint). written (coordinates l) (a .points .now)) same ∙ r .2;
+    }
 
 pub list-into-spec : {M : Type 1} → statement M
 list-into-spec =
