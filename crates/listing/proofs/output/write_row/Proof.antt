@@ -11,8 +11,8 @@ use mathlib.Core.List.{List}
 use lib.IntN.{ℤ, pos}
 use lib.ListN.{length, getD, set, drop, length-set, length-drop}
 use lib.Seq.{paste, paste-zero, paste-suc, getD-drop}
-use Rattle.listing.proofs.write_row.Statement.{statement}
-use Rattle.listing.proofs.write_row.Tie as tie
+use Rattle.listing.proofs.output.write_row.Statement.{statement}
+use Rattle.listing.proofs.output.write_row.Tie as tie
 
 abbrev Inv-loop : tie.InvT-loop
 Inv-loop found from n at points₀ i₀ points i = (i ≤ n) × (length points ≡ length points₀) × (points ≡ paste points₀ at (drop from found) i)

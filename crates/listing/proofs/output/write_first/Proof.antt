@@ -9,8 +9,8 @@ use borrow.Author.Needs.{needs}
 use Rattle.definitions.specs.Listing.{ListPoint, sorted}
 use Rattle.definitions.specs.Calls.{written, coordinates}
 use Rattle.listing.proofs.Ordering.{firsts-length, heads-length, firsts-rows}
-use Rattle.listing.proofs.write_first.Statement.{statement}
-use Rattle.listing.proofs.write_first.Tie as tie
+use Rattle.listing.proofs.output.write_first.Statement.{statement}
+use Rattle.listing.proofs.output.write_first.Tie as tie
 
 mul-size : tie.Need-mul-size
 mul-size c = search needs

@@ -15,8 +15,8 @@ use Rattle.sorting.proofs.Each.{at-place, all-take}
 use Rattle.sorting.proofs.Places.{row-within}
 use Rattle.listing.proofs.Writing.{written-run, mapped-more}
 use Rattle.listing.proofs.Coordinates.{coordinates-more, coordinates-alone, coordinates-count}
-use Rattle.listing.proofs.write_points.Statement.{statement}
-use Rattle.listing.proofs.write_points.Tie as tie
+use Rattle.listing.proofs.output.write_points.Statement.{statement}
+use Rattle.listing.proofs.output.write_points.Tie as tie
 
 abbrev Inv-loop : tie.InvT-loop
 Inv-loop found order n points₀ i₀ points i = (i ≤ length order) × (length points ≡ length points₀) × (points ≡ written (coordinates (map (row n [] found) (take i order))) points₀)

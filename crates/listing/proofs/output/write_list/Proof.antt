@@ -9,8 +9,8 @@ use Rattle.definitions.specs.Listing.{ListPoint}
 use Rattle.definitions.specs.Calls.{written, coordinates}
 use Rattle.sorting.specs.Indices.{AllBelow}
 use Rattle.listing.proofs.Ordering.{distances-at}
-use Rattle.listing.proofs.write_list.Statement.{statement}
-use Rattle.listing.proofs.write_list.Tie as tie
+use Rattle.listing.proofs.output.write_list.Statement.{statement}
+use Rattle.listing.proofs.output.write_list.Tie as tie
 
 abbrev begun : tie.After-sort-places → tie.Start
 begun c = c .before .before .before .before .before .before .before

@@ -10,8 +10,8 @@ use borrow.Author.Needs.{needs, scaled-fits}
 use Rattle.definitions.specs.Calls.{written}
 use Rattle.sorting.proofs.Each.{at-place}
 use Rattle.listing.proofs.Writing.{written-more, mapped-more, mapped-length}
-use Rattle.listing.proofs.write_distances.Statement.{statement}
-use Rattle.listing.proofs.write_distances.Tie as tie
+use Rattle.listing.proofs.output.write_distances.Statement.{statement}
+use Rattle.listing.proofs.output.write_distances.Tie as tie
 
 abbrev Inv-loop : tie.InvT-loop
 Inv-loop found order distances₀ i₀ distances i = (i ≤ length order) × (length distances ≡ length distances₀) × (distances ≡ written (map (λ (j : ℕ). getD found j nan) (take i order)) distances₀)
