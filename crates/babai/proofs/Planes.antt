@@ -9,9 +9,9 @@ use lib.IntN.{ℤ}
 use lib.Ieee.{Float, binary64, sub}
 use Rattle.rounding.specs.Integers.{toDouble, roundAway}
 use Rattle.definitions.specs.Table.{Table, dimension, coordinate}
-use Rattle.definitions.specs.Seeds.{alongFrom, Plane, planeLevel, planeLevels, nearestPlane}
-use Rattle.distance.specs.Residuals.{places}
-use Rattle.distance.proofs.Places.{places-none, places-set}
+use Rattle.definitions.specs.Seeds.{sumFrom, Plane, planeLevel, planeLevels, nearestPlane}
+use Rattle.lists.specs.Places.{places}
+use Rattle.lists.proofs.Places.{places-none, places-set}
 
 abbrev pub planeOf : List ℤ → List Float → Plane
 planeOf zs rest = record { point = zs; left = rest }
@@ -24,7 +24,7 @@ levels-one : (t : Table) (xs : List Float) (i : ℕ) (s : Plane) → planeLevels
 unfolding planeLevels
 levels-one t xs i s = refl
 
-level-is : (t : Table) (xs : List Float) (i : ℕ) (s : Plane) → planeLevel t xs i s ≡ planeOf (roundAway (alongFrom (dimension t) (t .mu) i (suc i) (s .left) (coordinate xs i)) ∷ s .point) (sub binary64 (coordinate xs i) (toDouble (roundAway (alongFrom (dimension t) (t .mu) i (suc i) (s .left) (coordinate xs i)))) ∷ s .left)
+level-is : (t : Table) (xs : List Float) (i : ℕ) (s : Plane) → planeLevel t xs i s ≡ planeOf (roundAway (sumFrom (dimension t) (t .mu) i (suc i) (s .left) (coordinate xs i)) ∷ s .point) (sub binary64 (coordinate xs i) (toDouble (roundAway (sumFrom (dimension t) (t .mu) i (suc i) (s .left) (coordinate xs i)))) ∷ s .left)
 unfolding planeLevel
 level-is t xs i s = refl
 
@@ -43,14 +43,14 @@ module _ (t : Table) (xs : List Float) where
       ∙ ap (λ (l : List Float). planeLevels t xs (dimension t) (planeOf [] l)) (places-none (dimension t) left q (dimension t) (omega arith))
       ∙ sym (plane-is t xs)
 
-  module _ (out : List ℤ) (left : List Float) (p : dimension t ≤ length out) (q : dimension t ≤ length left) (depth i : ℕ) (deep : depth ≡ i + 1) (low : i < dimension t) (x : Float) (own : x ≡ coordinate xs i) (v : Float) (along : v ≡ alongFrom (dimension t) (t .mu) i (i + 1) (places (dimension t) (i + 1) left) x) (z : ℤ) (chosen : z ≡ roundAway v) (d : Float) (converted : d ≡ toDouble z) where
-    chosen-is : z ≡ roundAway (alongFrom (dimension t) (t .mu) i (suc i) (places (dimension t) depth left) (coordinate xs i))
+  module _ (out : List ℤ) (left : List Float) (p : dimension t ≤ length out) (q : dimension t ≤ length left) (depth i : ℕ) (deep : depth ≡ i + 1) (low : i < dimension t) (x : Float) (own : x ≡ coordinate xs i) (v : Float) (along : v ≡ sumFrom (dimension t) (t .mu) i (i + 1) (places (dimension t) (i + 1) left) x) (z : ℤ) (chosen : z ≡ roundAway v) (d : Float) (converted : d ≡ toDouble z) where
+    chosen-is : z ≡ roundAway (sumFrom (dimension t) (t .mu) i (suc i) (places (dimension t) depth left) (coordinate xs i))
     chosen-is =
         let s : i + 1 ≡ suc i = omega arith in
         chosen ∙ ap roundAway
-        (along ∙ ap (alongFrom (dimension t) (t .mu) i (i + 1) (places (dimension t) (i + 1) left)) own
-        ∙ ap (λ (k : ℕ). alongFrom (dimension t) (t .mu) i (i + 1) (places (dimension t) k left) (coordinate xs i)) (sym deep)
-        ∙ ap (λ (k : ℕ). alongFrom (dimension t) (t .mu) i k (places (dimension t) depth left) (coordinate xs i)) s)
+        (along ∙ ap (sumFrom (dimension t) (t .mu) i (i + 1) (places (dimension t) (i + 1) left)) own
+        ∙ ap (λ (k : ℕ). sumFrom (dimension t) (t .mu) i (i + 1) (places (dimension t) k left) (coordinate xs i)) (sym deep)
+        ∙ ap (λ (k : ℕ). sumFrom (dimension t) (t .mu) i k (places (dimension t) depth left) (coordinate xs i)) s)
 
     held-turn : held i (set out i z) (set left i (sub binary64 x d)) ≡ planeLevel t xs i (held depth out left)
     held-turn =

@@ -1,1 +1,2 @@
--- Nothing beyond the definitions of document 01 is cited.
+-- What the contracts cite.
+pub mod Answers

@@ -1,35 +1,18 @@
 // What `round` and `nearest_plane` answer and leave in the slices that they are lent. Each line of the output has a
 // case's name and the verdict: `pass`, or the refusal's number with what it carries in brackets. After it stand the
 // slices at exit, each in square brackets: for `round` the integers; for `nearest_plane` the coefficients, as the 16
-// hexadecimal digits of their bits, and the integers. Where a case parts document 01 from another reading, its
+// hexadecimal digits of their bits, and the integers. Where a case parts the specification from another reading, its
 // comment names that.
 //
 // The expected output was written by this program compiled as Rust, with the text of the Rust's `round_away`, `round`
 // and `nearest_plane` in the place of the crate `babai`, and a `Gso` whose mu(j, i) is mu[j·n+i]. The lines of refusals
-// 2 to 5, which the Rust does not have, are worked out by hand from document 01.
+// 2 to 5, which the Rust does not have, are worked out by hand from the specification.
 use printing::doubles;
 use printing::integers;
 use printing::newline;
+use printing::values::*;
 use printing::verdict;
 use printing::word;
-
-const LARGEST: f64 = 1.7976931348623157e308;
-
-// 2^52 and the next double.
-const LIMIT: f64 = 4503599627370496.0;
-
-const BEYOND: f64 = 4503599627370497.0;
-
-// 2^63.
-const TOP: f64 = 9223372036854775808.0;
-
-fn infinity() -> f64 {
-    1.0 / 0.0
-}
-
-fn nan() -> f64 {
-    0.0 / 0.0
-}
 
 // ---- round
 
@@ -82,10 +65,9 @@ fn plane(name: &[u8], weights: &[f64], mu: &[f64], coefficients: &mut [f64], out
     newline();
 }
 
-// Only the entry at 2 is read.
 fn plane_two(name: &[u8], entry: f64, first: f64, second: f64) {
     let weights = [1.0, 1.0];
-    let mu = [nan(), -infinity(), entry, LARGEST];
+    let mu = mu_of_two(entry);
     let mut coefficients = [first, second];
     let mut out = [7, -8];
     plane(name, &weights, &mu, &mut coefficients, &mut out);
@@ -191,17 +173,8 @@ fn dimensions() {
         &mut one_place,
     );
     let weights = [1.0; 23];
-    let mut mu = [0.2; 529];
-    mu[22] = nan();
-    mu[23] = -0.7;
-    mu[253] = 0.3;
-    mu[506] = -4.0;
-    mu[527] = 0.9;
-    let mut coefficients = [0.7; 23];
-    coefficients[1] = -0.3;
-    coefficients[5] = 1.9;
-    coefficients[13] = -1.2;
-    coefficients[22] = 0.4;
+    let mu = mu_of_23();
+    let mut coefficients = target_of_23();
     let mut out = [7; 23];
     plane(b"plane n = 23:", &weights, &mu, &mut coefficients, &mut out);
 }
@@ -227,9 +200,8 @@ fn sizes() {
     table(b"2 more weights:", &weights_24, &mu_576);
 }
 
-// A table of dimension 3 with the entries that are read, at 3, 6 and 7.
 fn entries(name: &[u8], a: f64, b: f64, c: f64, weights: [f64; 3]) {
-    let mu = [nan(), nan(), nan(), a, LARGEST, infinity(), b, c, nan()];
+    let mu = mu_of_three([a, b, c]);
     table(name, &weights, &mu);
 }
 

@@ -1,5 +1,5 @@
--- The triangle fed entry by entry: after each entry its verdict, first index included, is that of numbers 3 and 4 over
--- the entries so far. Assumes nothing.
+-- The triangle fed entry by entry: after each one it has the verdict of checks 3 and 4 on those fed until then, and the
+-- index of the first fault. Assumes nothing.
 use mathlib.Core.Path.{_≡_, refl, sym, ap, _∙_}
 use mathlib.Core.Bool.{Bool, true, false, cond}
 use mathlib.Core.List.{List, [], _∷_, _++_}
@@ -10,8 +10,8 @@ use lib.ListN.{getD}
 use lib.Ieee.{Float, nan}
 use Rattle.definitions.specs.Refusals.{muNonFinite, muRange}
 use Rattle.definitions.specs.Checks.{Verdict, refuse, firstRefusal, refuseAtFirst, countFrom, readIndices, notFinite, beyondLimit}
-use Rattle.checks.specs.declared.Triangle.{Triangle}
-use Rattle.checks.specs.declared.Triangle.the-variants.{Clean, Range, NonFinite}
+use Rattle.checks.specs.declared.triangle.Triangle.{Triangle}
+use Rattle.checks.specs.declared.triangle.Triangle.the-variants.{Clean, Range, NonFinite}
 use Rattle.checks.specs.Triangle.{fed, fedAll, triangleVerdict}
 use Rattle.checks.specs.Triangle.{entriesVerdict}
 use Rattle.definitions.proofs.Verdicts.{orElse, first-cons}

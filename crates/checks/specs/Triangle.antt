@@ -1,13 +1,14 @@
 -- The check of the triangle, fed entry by entry: what has been seen so far of numbers 3 and 4. Definitions only.
-use Prim.Native.Nat.{ℕ}
+use mathlib.Core.Path.{_≡_}
+use Prim.Native.Nat.{ℕ, _*_, _≤_}
 use mathlib.Core.Bool.{cond}
 use mathlib.Core.List.{List, [], _∷_}
-use lib.ListN.{getD}
+use lib.ListN.{length, getD}
 use lib.Ieee.{Float, nan}
 use Rattle.definitions.specs.Checks.{Verdict, pass, refuse, firstRefusal, refuseAtFirst, notFinite, beyondLimit}
 use Rattle.definitions.specs.Refusals.{muNonFinite, muRange}
-use Rattle.checks.specs.declared.Triangle.{Triangle}
-use Rattle.checks.specs.declared.Triangle.the-variants.{Clean, Range, NonFinite}
+use Rattle.checks.specs.declared.triangle.Triangle.{Triangle}
+use Rattle.checks.specs.declared.triangle.Triangle.the-variants.{Clean, Range, NonFinite}
 
 -- one entry more, with its index: the first that is not finite counts, else the first above the limit
 abbrev pub fed : Triangle → ℕ → Float → Triangle
@@ -33,3 +34,8 @@ entriesVerdict mu is =
     (refuseAtFirst (λ i. notFinite (getD mu i nan)) muNonFinite is
     ∷ refuseAtFirst (λ i. beyondLimit (getD mu i nan)) muRange is
     ∷ [])
+
+-- n·n entries, n small enough for every index to fit
+pub record Square (n : ℕ) (mu : List Float) : Type 0 where
+  pub small : n ≤ 64
+  pub entries : length mu ≡ n * n

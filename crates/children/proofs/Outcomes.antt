@@ -1,10 +1,15 @@
 -- From the code's answers back to the definition's. Assumes nothing.
 use mathlib.Core.Path.{_≡_, refl, ap, sym, _∙_}
 use mathlib.Core.Bool.{Bool, true, false, cond, _&&_}
-use Prim.Native.Nat.{ℕ}
 use native.Mathlib.Omega.{arith}
+use Prim.Native.Nat.{ℕ, _<_, _^_}
 use lib.IntN.{ℤ}
+use lib.Signed.{mag}
+use mir.Syntax.{w64}
+use mir.Val.{toZ, ofZ, hbits}
+use mir.ValLaws.{toZ-ofZ}
 use Rattle.rounding.specs.Integers.{isI64}
+use Rattle.lists.proofs.Tuples.{fourth}
 use Rattle.definitions.specs.Zigzag.{Zigzag, Start, open-level, no-children, Next, child, none, passesTest}
 use Rattle.definitions.proofs.Zigzags.{generator}
 use Rattle.children.specs.declared.Children.{Children}
@@ -13,11 +18,15 @@ use Rattle.children.specs.declared.Level.the-variants.{Open, Closed}
 use Rattle.children.specs.declared.Child.the-variants.{At, End}
 use Rattle.children.specs.declared.Moved.the-variants.{In, Out}
 use Rattle.children.specs.declared.Tested.the-variants.{Passed, Failed}
-use Rattle.children.specs.View.{zigzag, children, trialOf, levelOf, childOf, movedOf, testedOf}
+use Rattle.children.specs.View.{zigzag, generatorOf, trialOf, levelOf, childOf, movedOf, testedOf}
+
+-- ---- the nearest integer of a generator, by what a struct's fields tell: it is the fourth
+pub nearest-is : {A B C D E : Type 0} {z : ℤ} → A × (B × (C × ((D × (mag z < 2 ^ hbits w64)) × E))) → toZ w64 (ofZ w64 z) ≡ z
+nearest-is {z = z} told = toZ-ofZ w64 z (record { sfits = fourth told .1 })
 
 -- ---- a level
 pub open-of : (x : Start) (d : Children) → Open d ≡ levelOf x → x ≡ open-level (zigzag d)
-open-of (open-level h) d e = let a : children h ≡ d = cc in ap (λ (k : Children). open-level (zigzag k)) a
+open-of (open-level h) d e = let a : generatorOf h ≡ d = cc in ap (λ (k : Children). open-level (zigzag k)) a
 open-of no-children d e = let f : _≡_ {A = ℕ} 0 1 = cc in absurd (omega (arith, f))
 
 pub closed-of : (x : Start) → Closed ≡ levelOf x → x ≡ no-children
@@ -27,7 +36,7 @@ closed-of (open-level h) e = let f : _≡_ {A = ℕ} 0 1 = cc in absurd (omega (
 -- ---- a child
 pub at-of : (x : Next) (t : Trial) (d : Children) → At t d ≡ childOf x → (x ≡ child (t .z) (zigzag d)) × (t ≡ trialOf (d .weight) (d .center) (t .z))
 at-of (child y h) t d e =
-    let a : children h ≡ d = cc in
+    let a : generatorOf h ≡ d = cc in
     let b : trialOf (h .weight) (h .center) y ≡ t = cc in (
       ap (λ (k : Children). child y (zigzag k)) a ∙ ap (λ (k : Trial). child (k .z) (zigzag d)) b,
       sym b ∙ ap (λ (k : Children). trialOf (k .weight) (k .center) y) a ∙ ap (λ (k : Trial). trialOf (d .weight) (d .center) (k .z)) b,

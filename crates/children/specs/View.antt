@@ -1,8 +1,10 @@
--- What the code's values stand for. Definitions only.
-use Prim.Native.Nat.{ℕ}
-use mathlib.Core.Bool.{Bool, true, _&&_, cond}
+-- What the code's values stand for, and what a step asks for. Definitions only.
+use mathlib.Core.Path.{_≡_}
+use Prim.Native.Nat.{ℕ, _%_, _^_, _<_, _≤_}
+use mathlib.Core.Bool.{Bool, true, false, _&&_, Bool·beq, cond}
+use lib.Dec.{eqb}
 use lib.IntN.{ℤ}
-use lib.Ieee.{Float}
+use lib.Ieee.{Float, le}
 use Rattle.rounding.specs.Integers.{toDouble, isI64}
 use Rattle.definitions.specs.Distance as D
 use Rattle.definitions.specs.Zigzag.{Zigzag, Start, open-level, no-children, Next, child, none, passesTest}
@@ -31,8 +33,8 @@ zigzag c = record {
 }
 
 -- a generator after its nearest integer, at another step
-abbrev pub at : Children → ℕ → Bool → Bool → Zigzag
-at self step positiveDone negativeDone = record {
+abbrev pub atStep : Children → ℕ → Bool → Bool → Zigzag
+atStep self step positiveDone negativeDone = record {
   center = self .center;
   remaining = self .remaining;
   weight = self .weight;
@@ -43,8 +45,8 @@ at self step positiveDone negativeDone = record {
   negativeDone = negativeDone;
 }
 
-abbrev pub children : Zigzag → Children
-children g = record {
+abbrev pub generatorOf : Zigzag → Children
+generatorOf g = record {
   center = g .center;
   remaining = g .remaining;
   weight = g .weight;
@@ -59,11 +61,11 @@ abbrev pub trialOf : Float → Float → ℤ → Trial
 trialOf w c z = record { z = z; value = toDouble z; term = D.term w c z }
 
 abbrev pub levelOf : Start → Level
-levelOf (open-level g) = Open (children g)
+levelOf (open-level g) = Open (generatorOf g)
 levelOf no-children = Closed
 
 abbrev pub childOf : Next → Child
-childOf (child z g) = At (trialOf (g .weight) (g .center) z) (children g)
+childOf (child z g) = At (trialOf (g .weight) (g .center) z) (generatorOf g)
 childOf (none g) = End
 
 -- a candidate by itself, and against what remained
@@ -72,3 +74,23 @@ movedOf z = cond (isI64 z) (In z) Out
 
 abbrev pub testedOf : Zigzag → ℤ → Tested
 testedOf g z = cond (isI64 z && passesTest g z) (Passed (trialOf (g .weight) (g .center) z)) Failed
+
+-- whether a step goes upward: odd steps go where the first does
+abbrev pub goesUpward : Children → ℕ → Bool
+goesUpward self step = Bool·beq (eqb (step % 2) 1) (le (toDouble (self .nearest)) (self .center))
+
+abbrev pub isDone : Children → Bool → Bool
+isDone self positive = cond positive (self .«positive_done») (self .«negative_done»)
+
+-- the first step that is tried: its direction is open
+pub record FirstStep (self : Children) (step : ℕ) (positive : Bool) : Type 0 where
+  pub bounded : step ≤ 2 ^ 62
+  pub emitted : self .«emitted_nearest» ≡ true
+  pub direction : positive ≡ goesUpward self step
+  pub not-done : isDone self positive ≡ false
+
+-- the step after it, in the other direction
+pub record LastStep (self : Children) (step : ℕ) (positive : Bool) : Type 0 where
+  pub bounded : step < 2 ^ 63
+  pub emitted : self .«emitted_nearest» ≡ true
+  pub direction : positive ≡ goesUpward self step

@@ -1,13 +1,11 @@
 // The integers of a level, in zigzag order from the centre outward.
 ghost use mathlib.Core.Path.{_≡_};
-ghost use mathlib.Core.Bool.{true, false, cond, not, _&&_, _||_, Bool·beq};
-ghost use Prim.Native.Nat.{_+_, _≤_, _<_, _^_, _%_};
+ghost use mathlib.Core.Bool.{false, cond, not, _&&_, _||_, Bool·beq};
+ghost use Prim.Native.Nat.{_+_, _<_, _^_, _%_};
 ghost use lib.Dec.{eqb};
 ghost use lib.IntN.{pos, negℤ, _+ℤ_, _-ℤ_};
-ghost use lib.Ieee.{le};
-ghost use Rattle.rounding.specs.Integers.{toDouble};
 ghost use Rattle.definitions.specs.Zigzag as Z;
-ghost use Rattle.children.specs.View.{zigzag, at, trialOf, levelOf, childOf, movedOf, testedOf};
+ghost use Rattle.children.specs.View.{zigzag, atStep, trialOf, levelOf, childOf, movedOf, testedOf, FirstStep, LastStep};
 use distance::term;
 use rounding::rounded_away;
 use rounding::to_double;
@@ -126,7 +124,7 @@ fn done(positive: bool, above: bool, below: bool) -> bool
 }
 
 // The number of a step, or of the one after it.
-fn advanced(step: u64, skipped: bool) -> u64
+fn open_step(step: u64, skipped: bool) -> u64
     requires { ⌜ step < 2 ^ 62 ⌝ }
     ensures { λ r. ⌜ r ≡ cond skipped (step + 1) step ⌝ }
 {
@@ -137,7 +135,7 @@ fn advanced(step: u64, skipped: bool) -> u64
 }
 
 // A direction, or the other one.
-fn turned(positive: bool, skipped: bool) -> bool
+fn open_direction(positive: bool, skipped: bool) -> bool
     ensures { λ r. ⌜ r ≡ cond skipped (not positive) positive ⌝ }
 {
     if skipped {
@@ -219,10 +217,8 @@ impl Children {
 
     // The child of the second step that is tried, unless its direction is closed too: the first has closed the other one.
     fn last_tried(self, step: u64, positive: bool) -> Child
-        requires { ⌜ step < 2 ^ 63 ⌝ }
-        requires { ⌜ self .«emitted_nearest» ≡ true ⌝ }
-        requires { ⌜ positive ≡ Bool·beq (eqb (step % 2) 1) (le (toDouble (self .nearest)) (self .center)) ⌝ }
-        ensures { λ r. ⌜ r ≡ childOf (Z.secondStep (Z.none (at self step (not positive || self .«positive_done») (positive || self .«negative_done»)))) ⌝ }
+        requires { ⌜ LastStep self step positive ⌝ }
+        ensures { λ r. ⌜ r ≡ childOf (Z.secondStep (Z.none (atStep self step (not positive || self .«positive_done») (positive || self .«negative_done»)))) ⌝ }
     {
         if done(positive, self.positive_done, self.negative_done) {
             return Child::End;
@@ -243,11 +239,8 @@ impl Children {
 
     // The child of a step whose direction is open, or of the step after it, or the end.
     fn tried(self, step: u64, positive: bool) -> Child
-        requires { ⌜ step ≤ 2 ^ 62 ⌝ }
-        requires { ⌜ self .«emitted_nearest» ≡ true ⌝ }
-        requires { ⌜ positive ≡ Bool·beq (eqb (step % 2) 1) (le (toDouble (self .nearest)) (self .center)) ⌝ }
-        requires { ⌜ cond positive (self .«positive_done») (self .«negative_done») ≡ false ⌝ }
-        ensures { λ r. ⌜ r ≡ childOf (Z.secondStep (Z.oneStep (at self step (self .«positive_done») (self .«negative_done»)))) ⌝ }
+        requires { ⌜ FirstStep self step positive ⌝ }
+        ensures { λ r. ⌜ r ≡ childOf (Z.secondStep (Z.oneStep (atStep self step (self .«positive_done») (self .«negative_done»)))) ⌝ }
     {
         let Tested::Passed(t) = self.tested((step + 1) / 2, positive) else {
             return self.last_tried(step + 1, !positive);
@@ -274,8 +267,11 @@ impl Children {
         if both(self.positive_done, self.negative_done) {
             return Child::End;
         }
-        let toward = upward(self.step, positive_first);
-        let skipped = done(toward, self.positive_done, self.negative_done);
-        self.tried(advanced(self.step, skipped), turned(toward, skipped))
+        let positive = upward(self.step, positive_first);
+        let skipped = done(positive, self.positive_done, self.negative_done);
+        self.tried(
+            open_step(self.step, skipped),
+            open_direction(positive, skipped),
+        )
     }
 }

@@ -9,6 +9,7 @@ use children::Trial;
 use printing::decimal;
 use printing::double;
 use printing::newline;
+use printing::values::TOP;
 use printing::word;
 
 fn direction(done: bool) {
@@ -23,8 +24,7 @@ fn row(t: Trial, g: Children) {
     decimal(t.z);
     double(t.value);
     double(t.term);
-    word(b" ");
-    io::print_decimal(1, g.step);
+    printing::count(g.step);
     direction(g.positive_done);
     direction(g.negative_done);
     newline();
@@ -69,9 +69,9 @@ fn main() {
     level(b"3.25, nothing remains\n", 3.25, 0.0, 2.0, 10);
     level(b"0.5, too little remains\n", 0.5, 0.125, 1.0, 10);
     // candidates beyond an i64 close a direction
-    level(b"2^63\n", 9223372036854775808.0, 1000.0, 1.0, 4);
+    level(b"2^63\n", TOP, 1000.0, 1.0, 4);
     level(b"2^63 + 2048\n", 9223372036854777856.0, 10000000.0, 1.0, 4);
-    level(b"-2^63\n", -9223372036854775808.0, 1000.0, 1.0, 4);
+    level(b"-2^63\n", -TOP, 1000.0, 1.0, 4);
     level(
         b"-2^63 - 2048\n",
         -9223372036854777856.0,

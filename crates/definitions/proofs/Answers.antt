@@ -1,14 +1,15 @@
 -- The calls' answers and outputs, a clause each, as equations: proofs above rewrite with these and open no definition. Assumes nothing.
-use mathlib.Core.Path.{_≡_, refl, ap, _∙_}
+use mathlib.Core.Path.{_≡_, refl, sym, ap, _∙_}
 use mathlib.Core.Bool.{Bool, true, false, cond}
 use mathlib.Core.List.{List, [], _∷_, _++_, map}
 use Prim.Native.Nat.{ℕ}
+use native.Mathlib.Omega.{arith}
 use lib.Dec.{ltb}
 use lib.ListN.{length}
 use lib.IntN.{ℤ}
 use lib.Ieee.{Float}
-use Rattle.definitions.specs.Table.{Table, dimension}
-use Rattle.definitions.specs.Walk.{ended, exhausted}
+use Rattle.definitions.specs.Table.{Table, dimension, largestDimension}
+use Rattle.definitions.specs.Walk.{Walked, ended, exhausted}
 use Rattle.definitions.specs.Nearest.{no-best, best, nearestWalk}
 use Rattle.definitions.specs.Listing.{ListPoint, listWalk, sorted}
 use Rattle.definitions.specs.Seeds.{widened}
@@ -23,6 +24,17 @@ after-pass {A} v a q = ap (λ (w : Verdict). after w a) q
 pub after-refuse : {A : Type 0} (v : Verdict) (a : Answer A) (e : Refusal) → v ≡ refuse e → after v a ≡ refused e
 unfolding after
 after-refuse {A} v a e q = ap (λ (w : Verdict). after w a) q
+
+pub found≢refused : {A : Type 0} {a : A} {e : Refusal} → found a ≡ refused e → ⊥
+found≢refused p = let z : _≡_ {A = ℕ} 0 1 = cc in omega arith
+
+pub refused-same : {A : Type 0} {d e : Refusal} → _≡_ {A = Answer A} (refused d) (refused e) → d ≡ e
+refused-same p = cc
+
+-- a found answer passed its checks
+pub found-passed : {A : Type 0} (v : Verdict) (a : Answer A) (x : A) → after v a ≡ found x → (v ≡ pass) × (a ≡ found x)
+found-passed pass a x e = (refl, sym (after-pass pass a refl) ∙ e)
+found-passed (refuse r) a x e = absurd (found≢refused (sym e ∙ after-refuse (refuse r) a r refl))
 
 -- ---- how a nearest search ends
 module _ (none : Refusal) where
@@ -47,19 +59,19 @@ unfolding nearestOutput
 output-refused e out = refl
 
 module _ (t : Table) (target : List Float) (out : List ℤ) (R : Float) (budget : ℕ) where
-  pub nearest-checks-are : nearestChecks t target out R budget ≡ firstRefusal (checksOfNearest t target out R budget)
+  pub nearest-checks-are : nearestChecks largestDimension t target out R budget ≡ firstRefusal (checksOfNearest largestDimension t target out R budget)
   unfolding nearestChecks
   nearest-checks-are = refl
 
-  pub nearest-is : nearest t target out R budget ≡ after (nearestChecks t target out R budget) (endOfNearest (outsideRadius (handedOn R)) (nearestWalk t target (handedOn R) budget))
+  pub nearest-is : nearest t target out R budget ≡ after (nearestChecks largestDimension t target out R budget) (endOfNearest (outsideRadius (handedOn R)) (nearestWalk t target (handedOn R) budget))
   unfolding nearest
   nearest-is = refl
 
-  pub nearest-checked : nearestChecks t target out R budget ≡ pass → nearest t target out R budget ≡ endOfNearest (outsideRadius (handedOn R)) (nearestWalk t target (handedOn R) budget)
-  nearest-checked q = nearest-is ∙ after-pass (nearestChecks t target out R budget) (endOfNearest (outsideRadius (handedOn R)) (nearestWalk t target (handedOn R) budget)) q
+  pub nearest-checked : nearestChecks largestDimension t target out R budget ≡ pass → nearest t target out R budget ≡ endOfNearest (outsideRadius (handedOn R)) (nearestWalk t target (handedOn R) budget)
+  nearest-checked q = nearest-is ∙ after-pass (nearestChecks largestDimension t target out R budget) (endOfNearest (outsideRadius (handedOn R)) (nearestWalk t target (handedOn R) budget)) q
 
-  pub nearest-refused : (e : Refusal) → nearestChecks t target out R budget ≡ refuse e → nearest t target out R budget ≡ refused e
-  nearest-refused e q = nearest-is ∙ after-refuse (nearestChecks t target out R budget) (endOfNearest (outsideRadius (handedOn R)) (nearestWalk t target (handedOn R) budget)) e q
+  pub nearest-refused : (e : Refusal) → nearestChecks largestDimension t target out R budget ≡ refuse e → nearest t target out R budget ≡ refused e
+  nearest-refused e q = nearest-is ∙ after-refuse (nearestChecks largestDimension t target out R budget) (endOfNearest (outsideRadius (handedOn R)) (nearestWalk t target (handedOn R) budget)) e q
 
 -- ---- seeded and ml: the walk at the widened radius
 pub widened-search-is : (t : Table) (target : List Float) (R : Float) (budget : ℕ) → widenedSearch t target R budget ≡ endOfNearest (noSeed (widened (dimension t) R)) (nearestWalk t target (widened (dimension t) R) budget)
@@ -67,34 +79,34 @@ unfolding widenedSearch
 widened-search-is t target R budget = refl
 
 module _ (t : Table) (target : List Float) (out candidate : List ℤ) (R : Float) (budget : ℕ) where
-  pub seeded-checks-are : seededChecks t target out candidate R budget ≡ firstRefusal (checksOfSeeded t target out candidate R budget)
+  pub seeded-checks-are : seededChecks largestDimension t target out candidate R budget ≡ firstRefusal (checksOfSeeded largestDimension t target out candidate R budget)
   unfolding seededChecks
   seeded-checks-are = refl
 
-  pub seeded-is : nearestSeeded t target out candidate R budget ≡ after (seededChecks t target out candidate R budget) (widenedSearch t target (handedOn R) budget)
+  pub seeded-is : nearestSeeded t target out candidate R budget ≡ after (seededChecks largestDimension t target out candidate R budget) (widenedSearch t target (handedOn R) budget)
   unfolding nearestSeeded
   seeded-is = refl
 
-  pub seeded-checked : seededChecks t target out candidate R budget ≡ pass → nearestSeeded t target out candidate R budget ≡ widenedSearch t target (handedOn R) budget
-  seeded-checked q = seeded-is ∙ after-pass (seededChecks t target out candidate R budget) (widenedSearch t target (handedOn R) budget) q
+  pub seeded-checked : seededChecks largestDimension t target out candidate R budget ≡ pass → nearestSeeded t target out candidate R budget ≡ widenedSearch t target (handedOn R) budget
+  seeded-checked q = seeded-is ∙ after-pass (seededChecks largestDimension t target out candidate R budget) (widenedSearch t target (handedOn R) budget) q
 
-  pub seeded-refused : (e : Refusal) → seededChecks t target out candidate R budget ≡ refuse e → nearestSeeded t target out candidate R budget ≡ refused e
-  seeded-refused e q = seeded-is ∙ after-refuse (seededChecks t target out candidate R budget) (widenedSearch t target (handedOn R) budget) e q
+  pub seeded-refused : (e : Refusal) → seededChecks largestDimension t target out candidate R budget ≡ refuse e → nearestSeeded t target out candidate R budget ≡ refused e
+  seeded-refused e q = seeded-is ∙ after-refuse (seededChecks largestDimension t target out candidate R budget) (widenedSearch t target (handedOn R) budget) e q
 
 module _ (t : Table) (target : List Float) (out : List ℤ) (budget : ℕ) where
-  pub ml-checks-are : mlChecks t target out budget ≡ firstRefusal (checksOfMl t target out budget)
+  pub ml-checks-are : mlChecks largestDimension t target out budget ≡ firstRefusal (checksOfMl largestDimension t target out budget)
   unfolding mlChecks
   ml-checks-are = refl
 
-  pub ml-is : nearestMl t target out budget ≡ after (mlChecks t target out budget) (widenedSearch t target (mlRadius t target) budget)
+  pub ml-is : nearestMl t target out budget ≡ after (mlChecks largestDimension t target out budget) (widenedSearch t target (mlRadius t target) budget)
   unfolding nearestMl
   ml-is = refl
 
-  pub ml-checked : mlChecks t target out budget ≡ pass → nearestMl t target out budget ≡ widenedSearch t target (mlRadius t target) budget
-  ml-checked q = ml-is ∙ after-pass (mlChecks t target out budget) (widenedSearch t target (mlRadius t target) budget) q
+  pub ml-checked : mlChecks largestDimension t target out budget ≡ pass → nearestMl t target out budget ≡ widenedSearch t target (mlRadius t target) budget
+  ml-checked q = ml-is ∙ after-pass (mlChecks largestDimension t target out budget) (widenedSearch t target (mlRadius t target) budget) q
 
-  pub ml-refused : (e : Refusal) → mlChecks t target out budget ≡ refuse e → nearestMl t target out budget ≡ refused e
-  ml-refused e q = ml-is ∙ after-refuse (mlChecks t target out budget) (widenedSearch t target (mlRadius t target) budget) e q
+  pub ml-refused : (e : Refusal) → mlChecks largestDimension t target out budget ≡ refuse e → nearestMl t target out budget ≡ refused e
+  ml-refused e q = ml-is ∙ after-refuse (mlChecks largestDimension t target out budget) (widenedSearch t target (mlRadius t target) budget) e q
 
 -- ---- how a list ends
 module _ (places : ℕ) where
@@ -111,6 +123,18 @@ module _ (places : ℕ) where
 
   pub list-sorted : (ps : List ListPoint) (R : Float) (m : ℕ) → ltb places (length ps) ≡ false → endOfList places (ended ps R m) ≡ found (record { nodes = m; points = sorted ps })
   list-sorted ps R m q = list-ended ps R m ∙ ap (λ (b : Bool). cond b (refused (listFull (length ps))) (found (record { nodes = m; points = sorted ps }))) q
+
+-- a list found is the walk's points in their order
+pub list-walked : (places : ℕ) (w : Walked (List ListPoint)) (a : ListAnswer) → endOfList places w ≡ found a → (ps : List ListPoint) × (S : Float) × (w ≡ ended ps S (a .nodes)) × (a .points ≡ sorted ps)
+list-walked places (exhausted m R) a e = absurd (found≢refused (sym e ∙ list-exhausted places m R))
+list-walked places (ended ps R m) a e = go (ltb places (length ps)) refl
+  where
+    go : (b : Bool) → ltb places (length ps) ≡ b → (qs : List ListPoint) × (S : Float) × (ended ps R m ≡ ended qs S (a .nodes)) × (a .points ≡ sorted qs)
+    go true q = absurd (found≢refused (sym e ∙ list-full places ps R m q))
+    go false q =
+        let f : found (record { nodes = m; points = sorted ps }) ≡ found a = sym (list-sorted places ps R m q) ∙ e in
+        let r : record { nodes = m; points = sorted ps } ≡ a = cc in
+        (ps, R, ap (λ (b : ListAnswer). ended ps R (b .nodes)) r, sym (ap (λ (b : ListAnswer). b .points) r))
 
 pub distances-found : (a : ListAnswer) (distances : List Float) → listDistances (found a) distances ≡ written (map (λ (p : ListPoint). p .distance) (a .points)) distances
 unfolding listDistances
@@ -137,25 +161,25 @@ unfolding coordinates
 coordinates-cons p ps = refl
 
 module _ (t : Table) (target : List Float) (distances : List Float) (points : List ℤ) (R : Float) (budget : ℕ) where
-  pub list-checks-are : listChecks t target distances points R budget ≡ firstRefusal (checksOfList t target distances points R budget)
+  pub list-checks-are : listChecks largestDimension t target distances points R budget ≡ firstRefusal (checksOfList largestDimension t target distances points R budget)
   unfolding listChecks
   list-checks-are = refl
 
-  pub list-is : list t target distances points R budget ≡ after (listChecks t target distances points R budget) (endOfList (length distances) (listWalk t target (handedOn R) budget))
+  pub list-is : list t target distances points R budget ≡ after (listChecks largestDimension t target distances points R budget) (endOfList (length distances) (listWalk t target (handedOn R) budget))
   unfolding list
   list-is = refl
 
-  pub list-checked : listChecks t target distances points R budget ≡ pass → list t target distances points R budget ≡ endOfList (length distances) (listWalk t target (handedOn R) budget)
-  list-checked q = list-is ∙ after-pass (listChecks t target distances points R budget) (endOfList (length distances) (listWalk t target (handedOn R) budget)) q
+  pub list-checked : listChecks largestDimension t target distances points R budget ≡ pass → list t target distances points R budget ≡ endOfList (length distances) (listWalk t target (handedOn R) budget)
+  list-checked q = list-is ∙ after-pass (listChecks largestDimension t target distances points R budget) (endOfList (length distances) (listWalk t target (handedOn R) budget)) q
 
-  pub list-refused : (e : Refusal) → listChecks t target distances points R budget ≡ refuse e → list t target distances points R budget ≡ refused e
-  list-refused e q = list-is ∙ after-refuse (listChecks t target distances points R budget) (endOfList (length distances) (listWalk t target (handedOn R) budget)) e q
+  pub list-refused : (e : Refusal) → listChecks largestDimension t target distances points R budget ≡ refuse e → list t target distances points R budget ≡ refused e
+  list-refused e q = list-is ∙ after-refuse (listChecks largestDimension t target distances points R budget) (endOfList (length distances) (listWalk t target (handedOn R) budget)) e q
 
 -- ---- round, nearest_plane
 pub round-is : (coefficients : List Float) (out : List ℤ) → round coefficients out ≡ firstRefusal (checksOfRound coefficients out)
 unfolding round
 round-is coefficients out = refl
 
-pub plane-is : (t : Table) (coefficients : List Float) (out : List ℤ) → plane t coefficients out ≡ firstRefusal (checksOfPlane t coefficients out)
+pub plane-is : (t : Table) (coefficients : List Float) (out : List ℤ) → plane t coefficients out ≡ firstRefusal (checksOfPlane largestDimension t coefficients out)
 unfolding plane
 plane-is t coefficients out = refl

@@ -1,4 +1,4 @@
--- The bench cases A to L of document 01, proved together by one evaluation of the definitions. Case I's list is taken with a budget of 6 (docs/DECISIONS.md).
+-- The bench cases A to L of docs/SPECIFICATION.md, proved together by one evaluation of the definitions. Case I's list is taken with a budget of 6 (docs/DECISIONS.md).
 -- Assumes nothing.
 use mathlib.Core.Path.{_≡_, refl}
 use Prim.Native.Nat.{ℕ, zero, suc, _+_, _-_, _/_, _%_, _^_}

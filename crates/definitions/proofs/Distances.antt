@@ -9,7 +9,7 @@ use lib.Ieee.{Float, binary64, add, sub, mul}
 use Rattle.rounding.specs.Integers.{toDouble}
 use Rattle.definitions.specs.Table.{Table, dimension, weight, entry, coordinate, plusZero}
 use Rattle.definitions.specs.Distance.{centerFrom, center, term, levelTerm, partial}
-use Rattle.definitions.specs.Seeds.{alongFrom}
+use Rattle.definitions.specs.Seeds.{sumFrom}
 
 pub center-nil : (n : ℕ) (mu target : List Float) (level j : ℕ) (c : Float) → centerFrom n mu target level j [] c ≡ c
 unfolding centerFrom
@@ -47,10 +47,10 @@ pub partial-step : (t : Table) (target : List Float) (z : ℤ) (zs : List ℤ) (
 partial-step t target z zs level e = partial-cons t target z zs ∙ ap (add binary64 (partial t target zs)) (level-is t target z zs level e)
 
 -- ---- the sum of `nearest_plane`
-pub along-nil : (n : ℕ) (mu : List Float) (i j : ℕ) (c : Float) → alongFrom n mu i j [] c ≡ c
-unfolding alongFrom
-along-nil n mu i j c = refl
+pub sum-from-nil : (n : ℕ) (mu : List Float) (i j : ℕ) (c : Float) → sumFrom n mu i j [] c ≡ c
+unfolding sumFrom
+sum-from-nil n mu i j c = refl
 
-pub along-cons : (n : ℕ) (mu : List Float) (i j : ℕ) (a : Float) (rest : List Float) (c : Float) → alongFrom n mu i j (a ∷ rest) c ≡ alongFrom n mu i (suc j) rest (add binary64 c (mul binary64 a (entry n mu j i)))
-unfolding alongFrom
-along-cons n mu i j a rest c = refl
+pub sum-from-cons : (n : ℕ) (mu : List Float) (i j : ℕ) (a : Float) (rest : List Float) (c : Float) → sumFrom n mu i j (a ∷ rest) c ≡ sumFrom n mu i (suc j) rest (add binary64 c (mul binary64 a (entry n mu j i)))
+unfolding sumFrom
+sum-from-cons n mu i j a rest c = refl

@@ -8,8 +8,12 @@ pub mod Turns
 pub mod Fuel
 pub mod Leaves
 pub mod ListedOrder
+pub mod WalkLeaves
 pub mod Verdicts
 pub mod Tables
 pub mod Passed
 pub mod Answers
 pub mod Decimal
+pub mod Triangles
+pub mod JobSections
+pub mod JobPrefixes

@@ -8,7 +8,7 @@ use lib.Dec.{T, eqb, eqb→eq}
 use lib.IntN.{ℤ}
 use lib.Ieee.Fits.{and-i, eq→eqb}
 use Rattle.rounding.specs.Integers.{isI64}
-use Rattle.definitions.specs.Zigzag.{Zigzag, Next, child, none, passesTest, upward, candidate, afterStep, oneStep, secondStep, bothDone, begun, next}
+use Rattle.definitions.specs.Zigzag.{Zigzag, Next, child, none, passesTest, upward, candidate, afterStep, oneStep, secondStep, bothDone, afterNearest, next}
 
 -- ---- the direction turns with each step
 pub odd-or-even : (s : ℕ) (b : Bool) → eqb (s % 2) 1 ≡ b → s % 2 ≡ cond b 1 0
@@ -104,7 +104,7 @@ second-final g (none h) l = subst Final (sym (secondStep-none h)) (go (bothDone 
     go true e = subst T (sym e) tt
     go false e = last (oneStep h) (step-leaves h)
 
-pub next-is : (g : Zigzag) → next g ≡ cond (g .emittedNearest) (cond (bothDone g) (none g) (secondStep (oneStep g))) (child (g .nearest) (begun g))
+pub next-is : (g : Zigzag) → next g ≡ cond (g .emittedNearest) (cond (bothDone g) (none g) (secondStep (oneStep g))) (child (g .nearest) (afterNearest g))
 unfolding next
 next-is g = refl
 
@@ -112,7 +112,7 @@ next-is g = refl
 pub none-is-final : (g : Zigzag) → Final (next g)
 none-is-final g = subst Final (sym (next-is g)) (go (g .emittedNearest) (bothDone g) refl)
   where
-    go : (started done : Bool) → bothDone g ≡ done → Final (cond started (cond done (none g) (secondStep (oneStep g))) (child (g .nearest) (begun g)))
+    go : (started done : Bool) → bothDone g ≡ done → Final (cond started (cond done (none g) (secondStep (oneStep g))) (child (g .nearest) (afterNearest g)))
     go false done e = tt
     go true true e = subst T (sym e) tt
     go true false e = second-final g (oneStep g) (step-leaves g)

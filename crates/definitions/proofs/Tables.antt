@@ -1,16 +1,18 @@
 -- What a table and a target that pass are like. Assumes nothing.
 use mathlib.Core.Path.{_≡_, refl, sym, _∙_, subst}
-use mathlib.Core.Bool.{Bool, true, false, not, _||_}
+use mathlib.Core.Bool.{Bool, true, false, not, _||_, true≢false}
 use mathlib.Core.List.{List, [], _∷_, _++_, List·Memᴰ, Memᴰ·append-left, Memᴰ·append-right}
 use mathlib.Core.Logic.{⊎-elim}
 use Prim.Native.Nat.{ℕ, zero, suc, _+_, _*_, _≤_, _<_}
 use native.Mathlib.Nat.{mul-le-mul-right, add-mul, eq-or-lt-of-le}
 use native.Mathlib.Omega.{arith}
 use borrow.Author.Tests.{ltb-false, eqb-true, not-false}
-use lib.Dec.{ltb, eqb}
+use lib.Dec.{T, ltb, eqb}
 use lib.ListN.{length, getD}
-use lib.Ieee.{Float, nan}
-use Rattle.definitions.specs.Table.{Table, dimension, weight, entry, coordinate}
+use lib.Ieee.{Float, nan, binary64, fits, lt}
+use lib.Ieee.Scale.{finite}
+use Rattle.rounding.proofs.Interface.{Weight, weight-of, held}
+use Rattle.definitions.specs.Table.{Table, dimension, weight, entry, coordinate, plusZero}
 use Rattle.definitions.specs.Refusals.{Refusal, tableSize, muNonFinite, muRange, weightRange, nonFinite}
 use Rattle.definitions.specs.Checks.{pass, firstRefusal, refuseIf, countFrom, readIndices, notFinite, beyondLimit, weightFault, targetFault, tableSizeCheck, muNonFiniteCheck, muRangeCheck, weightRangeCheck, tableChecks, targetCheck}
 use Rattle.definitions.proofs.Verdicts.{refuse≢pass, first-alone, append-passes, counts, passes-clean, passed}
@@ -26,6 +28,16 @@ pub neither : (a b : Bool) (e : Refusal) → refuseIf (a || b) e ≡ pass → (a
 neither true b e q = absurd (refuse≢pass q)
 neither false true e q = absurd (refuse≢pass q)
 neither false false e q = (refl, refl)
+
+pub both-false : (a b : Bool) → (a || b) ≡ false → (a ≡ false) × (b ≡ false)
+both-false true b e = absurd (true≢false e)
+both-false false b e = (refl, e)
+
+-- a double that passes check 5
+pub weight-passed : (w : Float) → T (fits binary64 w) → weightFault w ≡ false → Weight binary64 w
+weight-passed w double e =
+    let p = both-false (notFinite w) (not (lt plusZero w)) e in
+    weight-of binary64 w double (held (not-false (finite w) (p .0))) (held (not-false (lt plusZero w) (p .1)))
 
 -- check 2 leaves a square of at most `largest`
 pub size-passed : (largest : ℕ) (t : Table) → tableSizeCheck largest t ≡ pass → (dimension t ≤ largest) × (length (t .mu) ≡ dimension t * dimension t)
@@ -56,20 +68,16 @@ pub record CheckedTable (largest : ℕ) (t : Table) : Type 0 where
   pub within-limit : (j i : ℕ) → i < j → j < dimension t → beyondLimit (entry (dimension t) (t .mu) j i) ≡ false
   pub weighted : (i : ℕ) → i < dimension t → weightFault (weight t i) ≡ false
 
-pub table-passed : (largest : ℕ) (t : Table) → firstRefusal (tableChecks largest t) ≡ pass → CheckedTable largest t
-unfolding tableChecks
-table-passed largest t q =
+pub table-passed : (largest : ℕ) (t : Table) → tableSizeCheck largest t ≡ pass → muNonFiniteCheck t ≡ pass → muRangeCheck t ≡ pass → weightRangeCheck t ≡ pass → CheckedTable largest t
+table-passed largest t p2 p3 p4 p5 =
     let n = dimension t in
-    let p2 = append-passes (tableSizeCheck largest t ∷ []) (muNonFiniteCheck t ∷ muRangeCheck t ∷ weightRangeCheck t ∷ []) q in
-    let p3 = append-passes (muNonFiniteCheck t ∷ []) (muRangeCheck t ∷ weightRangeCheck t ∷ []) (p2 .1) in
-    let p4 = append-passes (muRangeCheck t ∷ []) (weightRangeCheck t ∷ []) (p3 .1) in
-    let size = size-passed largest t (sym (first-alone (tableSizeCheck largest t)) ∙ p2 .0) in
+    let size = size-passed largest t p2 in
     record {
       small = size .0;
       square = size .1;
-      finite-entry = λ j i left below. passes-clean (λ k. notFinite (getD (t .mu) k nan)) muNonFinite (readIndices n n) (sym (first-alone (muNonFiniteCheck t)) ∙ p3 .0) (j * n + i) (read n n j i left below);
-      within-limit = λ j i left below. passes-clean (λ k. beyondLimit (getD (t .mu) k nan)) muRange (readIndices n n) (sym (first-alone (muRangeCheck t)) ∙ p4 .0) (j * n + i) (read n n j i left below);
-      weighted = λ i below. passed (λ k. weightFault (weight t k)) weightRange n (sym (first-alone (weightRangeCheck t)) ∙ p4 .1) i below;
+      finite-entry = λ j i left below. passes-clean (λ k. notFinite (getD (t .mu) k nan)) muNonFinite (readIndices n n) p3 (j * n + i) (read n n j i left below);
+      within-limit = λ j i left below. passes-clean (λ k. beyondLimit (getD (t .mu) k nan)) muRange (readIndices n n) p4 (j * n + i) (read n n j i left below);
+      weighted = λ i below. passed (λ k. weightFault (weight t k)) weightRange n p5 i below;
     }
 
 -- what check 7 leaves

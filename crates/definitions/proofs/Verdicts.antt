@@ -6,6 +6,7 @@ use mathlib.Core.Logic.{⊎-elim}
 use Prim.Native.Nat.{ℕ, zero, suc, _+_, _≤_, _<_}
 use native.Mathlib.Nat.{eq-or-lt-of-le}
 use native.Mathlib.Omega.{arith}
+use Rattle.lists.specs.All.{none, more, AllBelow}
 use Rattle.definitions.specs.Refusals.{Refusal}
 use Rattle.definitions.specs.Checks.{Verdict, pass, refuse, firstRefusal, refuseAtFirst, countFrom}
 
@@ -65,6 +66,12 @@ counts first (suc n) k from below =
     (λ same. List·Memᴰ·head (sym same))
     (λ less. List·Memᴰ·tail (counts (suc first) n k (omega arith) (omega arith)))
     (eq-or-lt-of-le from)
+
+-- they are below their number
+pub counted-below : (first k bound : ℕ) → first + k ≤ bound → AllBelow bound (countFrom first k)
+unfolding countFrom
+counted-below first zero bound h = none
+counted-below first (suc k) bound h = more {x = first} (omega arith) (counted-below (suc first) k bound (omega arith))
 
 -- ---- the first index of a fault
 module _ (fault : ℕ → Bool) (e : ℕ → Refusal) where

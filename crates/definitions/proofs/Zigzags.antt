@@ -9,7 +9,7 @@ use lib.IntN.{ℤ, pos, _+ℤ_, _-ℤ_}
 use lib.Ieee.{Float, le}
 use Rattle.rounding.specs.Integers.{toDouble, roundAway, isI64}
 use Rattle.definitions.specs.Distance.{term}
-use Rattle.definitions.specs.Zigzag.{Zigzag, Start, open-level, no-children, Next, child, none, passesTest, fresh, start, upward, stepMagnitude, candidate, afterStep, oneStep, bothDone, secondStep, begun, next}
+use Rattle.definitions.specs.Zigzag.{Zigzag, Start, open-level, no-children, Next, child, none, passesTest, newZigzag, start, upward, stepMagnitude, candidate, afterStep, oneStep, bothDone, secondStep, afterNearest, next}
 use Rattle.definitions.proofs.Steps.{Final, none-is-final}
 
 pub passes-is : (g : Zigzag) (z : ℤ) → passesTest g z ≡ le (term (g .weight) (g .center) z) (g .remaining)
@@ -30,14 +30,14 @@ startAt c r w m = record {
   negativeDone = false;
 }
 
-fresh-is : (c r w : Float) → fresh c r w ≡ startAt c r w (roundAway c)
-unfolding fresh
+fresh-is : (c r w : Float) → newZigzag c r w ≡ startAt c r w (roundAway c)
+unfolding newZigzag
 fresh-is c r w = refl
 
 abbrev startIf : Bool → Zigzag → Start
 startIf passed g = cond passed (open-level g) no-children
 
-start-fresh : (c r w : Float) → start c r w ≡ startIf (passesTest (fresh c r w) (fresh c r w .nearest)) (fresh c r w)
+start-fresh : (c r w : Float) → start c r w ≡ startIf (passesTest (newZigzag c r w) (newZigzag c r w .nearest)) (newZigzag c r w)
 unfolding start
 start-fresh c r w = refl
 
@@ -79,7 +79,7 @@ module _ (g : Zigzag) where
   abbrev stepBy : Bool → Bool → Bool → ℤ → Next
   stepBy up closed passed z = cond closed (none (afterStep false false g)) (cond passed (child z (afterStep false false g)) (none (afterStep up (not up) g)))
 
-  step-is : oneStep g ≡ stepBy (upward g) (directionDone (upward g)) (isI64 (candidate g) && passesTest g (candidate g)) (candidate g)
+  pub step-is : oneStep g ≡ stepBy (upward g) (directionDone (upward g)) (isI64 (candidate g) && passesTest g (candidate g)) (candidate g)
   unfolding oneStep
   step-is = refl
 
@@ -107,12 +107,12 @@ module _ (g : Zigzag) where
     step-closes live test = step-tried live false test
 
 -- ---- the next child
-next-is : (g : Zigzag) → next g ≡ cond (g .emittedNearest) (cond (bothDone g) (none g) (secondStep (oneStep g))) (child (g .nearest) (begun g))
+next-is : (g : Zigzag) → next g ≡ cond (g .emittedNearest) (cond (bothDone g) (none g) (secondStep (oneStep g))) (child (g .nearest) (afterNearest g))
 unfolding next
 next-is g = refl
 
-pub next-first : (g : Zigzag) → g .emittedNearest ≡ false → next g ≡ child (g .nearest) (begun g)
-next-first g e = next-is g ∙ ap (λ (b : Bool). cond b (cond (bothDone g) (none g) (secondStep (oneStep g))) (child (g .nearest) (begun g))) e
+pub next-first : (g : Zigzag) → g .emittedNearest ≡ false → next g ≡ child (g .nearest) (afterNearest g)
+next-first g e = next-is g ∙ ap (λ (b : Bool). cond b (cond (bothDone g) (none g) (secondStep (oneStep g))) (child (g .nearest) (afterNearest g))) e
 
 -- a child ends the steps, and no child goes on with f
 abbrev goOn : (Zigzag → Next) → Next → Next
@@ -147,7 +147,7 @@ pub next-steps : (g : Zigzag) → g .emittedNearest ≡ true → steps 2 g ≡ n
 next-steps g e =
     steps-suc 1 g
     ∙ ap (cond (bothDone g) (none g)) (sym (second-is (oneStep g)))
-    ∙ ap (λ (b : Bool). cond b (cond (bothDone g) (none g) (secondStep (oneStep g))) (child (g .nearest) (begun g))) (sym e)
+    ∙ ap (λ (b : Bool). cond b (cond (bothDone g) (none g) (secondStep (oneStep g))) (child (g .nearest) (afterNearest g))) (sym e)
     ∙ sym (next-is g)
 
 -- ---- a loop that makes the steps of `next from`, when at most k are left

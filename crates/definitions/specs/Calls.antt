@@ -26,7 +26,7 @@ after pass answer = answer
 
 -- ---- nearest, nearest_seeded, nearest_ml
 
--- "The answer is point and node count"
+-- a point that was found, with the number of nodes
 pub record NearestPoint : Type 0 where
   pub nodes : ℕ
   pub point : List ℤ
@@ -37,38 +37,38 @@ endOfNearest none (exhausted nodes standing) = refused (budgetExhausted nodes st
 endOfNearest none (ended no-best standing nodes) = refused none
 endOfNearest none (ended (best zs) standing nodes) = found (record { nodes = nodes; point = zs })
 
--- 2 to 5, then 6 (target, then output) and 7
-unfoldable pub searchChecks : Table → List Float → List ℤ → List Verdict
+-- 2 to 5, then 6 (target, then output) and 7, with the largest n given
+unfoldable pub searchChecks : ℕ → Table → List Float → List ℤ → List Verdict
 unfolding tableChecks targetCheck
-searchChecks t target out =
-    tableChecks largestDimension t
+searchChecks largest t target out =
+    tableChecks largest t
     ++ lengthCheck (dimension t) (length target) ∷ lengthCheck (dimension t) (length out) ∷ targetCheck target ∷ []
 
 -- and 8, 9
-abbrev pub checksOfNearest : Table → List Float → List ℤ → Float → ℕ → List Verdict
-checksOfNearest t target out R budget = searchChecks t target out ++ radiusCheck R ∷ budgetCheck budget ∷ []
+abbrev pub checksOfNearest : ℕ → Table → List Float → List ℤ → Float → ℕ → List Verdict
+checksOfNearest largest t target out R budget = searchChecks largest t target out ++ radiusCheck R ∷ budgetCheck budget ∷ []
 
-unfoldable pub nearestChecks : Table → List Float → List ℤ → Float → ℕ → Verdict
+unfoldable pub nearestChecks : ℕ → Table → List Float → List ℤ → Float → ℕ → Verdict
 unfolding firstRefusal searchChecks radiusCheck
-nearestChecks t target out R budget = firstRefusal (checksOfNearest t target out R budget)
+nearestChecks largest t target out R budget = firstRefusal (checksOfNearest largest t target out R budget)
 
--- `nearest`: "a plain nearest without one ends with 16"
+-- `nearest`: 16 if nothing was found
 unfoldable pub nearest : Table → List Float → List ℤ → Float → ℕ → Answer NearestPoint
 unfolding after nearestChecks endOfNearest nearestWalk
 nearest t target out R budget =
-    after (nearestChecks t target out R budget)
+    after (nearestChecks largestDimension t target out R budget)
     (endOfNearest (outsideRadius (handedOn R)) (nearestWalk t target (handedOn R) budget))
 
--- the walk of a seeded or ml search: "the widened one", and 17 if nothing was found
+-- the search of a seeded or ml call, which starts at the widened radius: 17 if nothing was found
 unfoldable pub widenedSearch : Table → List Float → Float → ℕ → Answer NearestPoint
 unfolding widened endOfNearest nearestWalk
 widenedSearch t target R budget =
     let radius = widened (dimension t) R in endOfNearest (noSeed radius) (nearestWalk t target radius budget)
 
 -- 2 to 9, then 10 to 13
-abbrev pub checksOfSeeded : Table → List Float → List ℤ → List ℤ → Float → ℕ → List Verdict
-checksOfSeeded t target out candidate R budget =
-    searchChecks t target out
+abbrev pub checksOfSeeded : ℕ → Table → List Float → List ℤ → List ℤ → Float → ℕ → List Verdict
+checksOfSeeded largest t target out candidate R budget =
+    searchChecks largest t target out
     ++ radiusCheck R
     ∷ budgetCheck budget
     ∷ candidateLengthCheck (dimension t) (length candidate)
@@ -77,38 +77,38 @@ checksOfSeeded t target out candidate R budget =
     ∷ widenedRadiusCheck (widened (dimension t) (handedOn R))
     ∷ []
 
-unfoldable pub seededChecks : Table → List Float → List ℤ → List ℤ → Float → ℕ → Verdict
+unfoldable pub seededChecks : ℕ → Table → List Float → List ℤ → List ℤ → Float → ℕ → Verdict
 unfolding firstRefusal searchChecks radiusCheck candidateOutsideCheck partial widened
-seededChecks t target out candidate R budget = firstRefusal (checksOfSeeded t target out candidate R budget)
+seededChecks largest t target out candidate R budget = firstRefusal (checksOfSeeded largest t target out candidate R budget)
 
 -- `nearest_seeded`
 unfoldable pub nearestSeeded : Table → List Float → List ℤ → List ℤ → Float → ℕ → Answer NearestPoint
 unfolding after seededChecks widenedSearch
 nearestSeeded t target out candidate R budget =
-    after (seededChecks t target out candidate R budget) (widenedSearch t target (handedOn R) budget)
+    after (seededChecks largestDimension t target out candidate R budget) (widenedSearch t target (handedOn R) budget)
 
--- ml's candidate and radius: "the `nearest_plane` point as candidate and its distance as radius"
+-- the radius of `nearest_ml`: the computed distance of its candidate, which is what `nearest_plane` finds
 unfoldable pub mlRadius : Table → List Float → Float
 unfolding nearestPlane partial
 mlRadius t target = distance t target (nearestPlane t target .point)
 
 -- 2 to 7 and 9, then 11 and 13
-abbrev pub checksOfMl : Table → List Float → List ℤ → ℕ → List Verdict
-checksOfMl t target out budget =
-    searchChecks t target out
+abbrev pub checksOfMl : ℕ → Table → List Float → List ℤ → ℕ → List Verdict
+checksOfMl largest t target out budget =
+    searchChecks largest t target out
     ++ budgetCheck budget
     ∷ candidateDistanceCheck (mlRadius t target)
     ∷ widenedRadiusCheck (widened (dimension t) (mlRadius t target))
     ∷ []
 
-unfoldable pub mlChecks : Table → List Float → List ℤ → ℕ → Verdict
+unfoldable pub mlChecks : ℕ → Table → List Float → List ℤ → ℕ → Verdict
 unfolding firstRefusal searchChecks mlRadius widened
-mlChecks t target out budget = firstRefusal (checksOfMl t target out budget)
+mlChecks largest t target out budget = firstRefusal (checksOfMl largest t target out budget)
 
 -- `nearest_ml`
 unfoldable pub nearestMl : Table → List Float → List ℤ → ℕ → Answer NearestPoint
 unfolding after mlChecks widenedSearch mlRadius
-nearestMl t target out budget = after (mlChecks t target out budget) (widenedSearch t target (mlRadius t target) budget)
+nearestMl t target out budget = after (mlChecks largestDimension t target out budget) (widenedSearch t target (mlRadius t target) budget)
 
 -- the output slice at exit of all three: the point, or what it held
 unfoldable pub nearestOutput : Answer NearestPoint → List ℤ → List ℤ
@@ -117,12 +117,12 @@ nearestOutput (refused e) out = out
 
 -- ---- list
 
--- "The list and its count go out"
+-- the list in its order, with the number of nodes
 pub record ListAnswer : Type 0 where
   pub nodes : ℕ
   pub points : List ListPoint
 
--- "15 before 18": more points than places
+-- the list, unless the walk ended by 15; 18 if there are more points than places
 unfoldable pub endOfList : ℕ → Walked (List ListPoint) → Answer ListAnswer
 unfolding sorted
 endOfList places (exhausted nodes standing) = refused (budgetExhausted nodes standing)
@@ -130,9 +130,9 @@ endOfList places (ended points standing nodes) =
     cond (ltb places (length points)) (refused (listFull (length points))) (found (record { nodes = nodes; points = sorted points }))
 
 -- 2 to 5, 6 (target), 7, 8, 9, 14
-abbrev pub checksOfList : Table → List Float → List Float → List ℤ → Float → ℕ → List Verdict
-checksOfList t target distances points R budget =
-    tableChecks largestDimension t
+abbrev pub checksOfList : ℕ → Table → List Float → List Float → List ℤ → Float → ℕ → List Verdict
+checksOfList largest t target distances points R budget =
+    tableChecks largest t
     ++ lengthCheck (dimension t) (length target)
     ∷ targetCheck target
     ∷ radiusCheck R
@@ -140,17 +140,17 @@ checksOfList t target distances points R budget =
     ∷ listSizeCheck (dimension t) (length distances) (length points)
     ∷ []
 
-unfoldable pub listChecks : Table → List Float → List Float → List ℤ → Float → ℕ → Verdict
+unfoldable pub listChecks : ℕ → Table → List Float → List Float → List ℤ → Float → ℕ → Verdict
 unfolding firstRefusal tableChecks targetCheck radiusCheck
-listChecks t target distances points R budget = firstRefusal (checksOfList t target distances points R budget)
+listChecks largest t target distances points R budget = firstRefusal (checksOfList largest t target distances points R budget)
 
 -- `list`
 unfoldable pub list : Table → List Float → List Float → List ℤ → Float → ℕ → Answer ListAnswer
 unfolding after listChecks endOfList listWalk
 list t target distances points R budget =
-    after (listChecks t target distances points R budget) (endOfList (length distances) (listWalk t target (handedOn R) budget))
+    after (listChecks largestDimension t target distances points R budget) (endOfList (length distances) (listWalk t target (handedOn R) budget))
 
--- the first places hold what is written; "places after the last point keep their contents"
+-- the first places hold what is written, and those after them what they held
 abbrev pub written : {A : Type 0} → List A → List A → List A
 written new old = new ++ drop (length new) old
 
@@ -172,7 +172,7 @@ listPoints (refused e) points = points
 
 -- ---- round, nearest_plane
 
--- 6 ("output against coefficients"), then 7 without the limit
+-- 6, of the output against the coefficients, then 7 without the limit
 abbrev pub checksOfRound : List Float → List ℤ → List Verdict
 checksOfRound coefficients out = lengthCheck (length coefficients) (length out) ∷ finiteCheck coefficients ∷ []
 
@@ -187,9 +187,9 @@ roundOutput pass coefficients out = rounded coefficients
 roundOutput (refuse e) coefficients out = out
 
 -- 2 to 5, 6, then 7 without the limit
-abbrev pub checksOfPlane : Table → List Float → List ℤ → List Verdict
-checksOfPlane t coefficients out =
-    tableChecks largestDimension t
+abbrev pub checksOfPlane : ℕ → Table → List Float → List ℤ → List Verdict
+checksOfPlane largest t coefficients out =
+    tableChecks largest t
     ++ planeLengthCheck (dimension t) (length coefficients) (length out)
     ∷ finiteCheck coefficients
     ∷ []
@@ -197,7 +197,7 @@ checksOfPlane t coefficients out =
 -- `nearest_plane`
 unfoldable pub plane : Table → List Float → List ℤ → Verdict
 unfolding firstRefusal tableChecks finiteCheck
-plane t coefficients out = firstRefusal (checksOfPlane t coefficients out)
+plane t coefficients out = firstRefusal (checksOfPlane largestDimension t coefficients out)
 
 -- its output at exit
 unfoldable pub planeOutput : Verdict → Table → List Float → List ℤ → List ℤ
@@ -205,7 +205,7 @@ unfolding nearestPlane
 planeOutput pass t coefficients out = nearestPlane t coefficients .point
 planeOutput (refuse e) t coefficients out = out
 
--- its coefficients at exit: "it leaves t - z in the coefficients"
+-- its coefficients at exit: what is left of each after its integer was subtracted
 unfoldable pub planeCoefficients : Verdict → Table → List Float → List Float
 unfolding nearestPlane
 planeCoefficients pass t coefficients = nearestPlane t coefficients .left

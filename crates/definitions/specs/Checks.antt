@@ -1,5 +1,5 @@
--- The checks, each by itself: document 01, "The numbered refusals", 2 to 14. A call makes a list of them, and its first refusal wins. Definitions only.
-use Prim.Native.Nat.{ℕ, zero, suc, _*_, _^_}
+-- The checks, each by itself: docs/SPECIFICATION.md, "The numbered refusals", 2 to 14. A call makes a list of them, and its first refusal wins. Definitions only.
+use Prim.Native.Nat.{ℕ, zero, suc, _*_}
 use mathlib.Core.Bool.{Bool, not, _&&_, _||_, cond}
 use mathlib.Core.List.{List, [], _∷_, _++_}
 use lib.Dec.{ltb, eqb}
@@ -7,14 +7,14 @@ use lib.ListN.{length, getD}
 use lib.Ieee.{Float, nan, lt}
 use lib.Ieee.Scale.{finite}
 use Rattle.rounding.specs.Doubles.{magnitude}
-use Rattle.definitions.specs.Table.{Table, dimension, weight, coordinate, plusZero, coordLimit}
+use Rattle.definitions.specs.Table.{Table, dimension, weight, coordinate, plusZero, coordLimit, largestBudget, largestList}
 use Rattle.definitions.specs.Refusals.{Refusal, tableSize, muNonFinite, muRange, weightRange, lengthMismatch, nonFinite, invalidRadius, budgetRange, candidateLength, candidateDistance, candidateOutside, widenedRadius, listSize}
 
 pub data Verdict : Type 0 where
   pass : Verdict
   refuse : Refusal → Verdict
 
--- "refused under the first number of document 01 that fits it"
+-- the first of these that refuses decides
 unfoldable pub firstRefusal : List Verdict → Verdict
 firstRefusal [] = pass
 firstRefusal (refuse e ∷ verdicts) = refuse e
@@ -33,7 +33,7 @@ unfoldable pub countFrom : ℕ → ℕ → List ℕ
 countFrom first zero = []
 countFrom first (suc k) = first ∷ countFrom (suc first) k
 
--- "Only mu[j·n+i] with j > i is read": the indices of the rows below j, rising; row j has those from j·n to j·n+j-1
+-- the indices of the entries mu that are read, of the rows below j, rising; row j has those from j·n to j·n+j-1
 unfoldable pub readIndices : ℕ → ℕ → List ℕ
 unfolding countFrom
 readIndices n zero = []
@@ -42,21 +42,21 @@ readIndices n (suc j) = readIndices n j ++ countFrom (j * n) j
 abbrev pub notFinite : Float → Bool
 notFinite x = not (finite x)
 
--- "magnitude above 2^52"
+-- larger than `COORD_LIMIT` in magnitude
 abbrev pub beyondLimit : Float → Bool
 beyondLimit x = lt coordLimit (magnitude x)
 
--- 5: "not finite or not above 0"
+-- 5: a weight must be finite and positive
 abbrev pub weightFault : Float → Bool
 weightFault w = notFinite w || not (lt plusZero w)
 
--- 7: "not finite or .. above 2^52 in magnitude"
+-- 7: a target must be finite and within `COORD_LIMIT`
 abbrev pub targetFault : Float → Bool
 targetFault x = notFinite x || beyondLimit x
 
 -- ---- the table
 
--- 2: "n above 23 or mu not n·n long", with the largest n given
+-- 2: more weights than the largest n, which is given, or mu of another length than n·n
 abbrev pub tableSizeCheck : ℕ → Table → Verdict
 tableSizeCheck largest t = refuseIf (ltb largest (dimension t) || not (eqb (length (t .mu)) (dimension t * dimension t))) (tableSize (dimension t))
 
@@ -64,7 +64,7 @@ tableSizeCheck largest t = refuseIf (ltb largest (dimension t) || not (eqb (leng
 abbrev pub muNonFiniteCheck : Table → Verdict
 muNonFiniteCheck t = refuseAtFirst (λ i. notFinite (getD (t .mu) i nan)) muNonFinite (readIndices (dimension t) (dimension t))
 
--- 4: "magnitude above 2^52"
+-- 4
 abbrev pub muRangeCheck : Table → Verdict
 muRangeCheck t = refuseAtFirst (λ i. beyondLimit (getD (t .mu) i nan)) muRange (readIndices (dimension t) (dimension t))
 
@@ -72,7 +72,7 @@ muRangeCheck t = refuseAtFirst (λ i. beyondLimit (getD (t .mu) i nan)) muRange 
 abbrev pub weightRangeCheck : Table → Verdict
 weightRangeCheck t = refuseAtFirst (λ i. weightFault (weight t i)) weightRange (countFrom 0 (dimension t))
 
--- "Every library call on a table .. checks 2 to 5"
+-- with these begins every call that has a table
 unfoldable pub tableChecks : ℕ → Table → List Verdict
 unfolding refuseAtFirst readIndices countFrom lt
 tableChecks largest t = tableSizeCheck largest t ∷ muNonFiniteCheck t ∷ muRangeCheck t ∷ weightRangeCheck t ∷ []
@@ -83,7 +83,7 @@ tableChecks largest t = tableSizeCheck largest t ∷ muNonFiniteCheck t ∷ muRa
 abbrev pub lengthCheck : ℕ → ℕ → Verdict
 lengthCheck expected found = refuseIf (not (eqb expected found)) (lengthMismatch expected found)
 
--- 6 in `nearest_plane`: "reports the coefficients' length even when the output is the wrong one"
+-- 6 in `nearest_plane`, one check of both lengths: found is the coefficients' length, whichever is wrong
 abbrev pub planeLengthCheck : ℕ → ℕ → ℕ → Verdict
 planeLengthCheck n coefficients output =
     refuseIf (not (eqb n coefficients && eqb n output)) (lengthMismatch n coefficients)
@@ -98,7 +98,7 @@ unfoldable pub finiteCheck : List Float → Verdict
 unfolding refuseAtFirst countFrom
 finiteCheck coefficients = refuseAtFirst (λ i. notFinite (coordinate coefficients i)) nonFinite (countFrom 0 (length coefficients))
 
--- 8: "negative or not finite (radius); minus zero passes"
+-- 8: a radius must be finite and not below 0; minus zero is not below 0
 unfoldable pub radiusCheck : Float → Verdict
 unfolding lt
 radiusCheck R = refuseIf (notFinite R || lt R plusZero) (invalidRadius R)
@@ -107,27 +107,27 @@ radiusCheck R = refuseIf (notFinite R || lt R plusZero) (invalidRadius R)
 abbrev pub handedOn : Float → Float
 handedOn R = R
 
--- 9: "above 2^60"
+-- 9: the budget must be within its limit
 abbrev pub budgetCheck : ℕ → Verdict
-budgetCheck budget = refuseIf (ltb (2 ^ 60) budget) (budgetRange budget)
+budgetCheck budget = refuseIf (ltb largestBudget budget) (budgetRange budget)
 
 -- 10
 abbrev pub candidateLengthCheck : ℕ → ℕ → Verdict
 candidateLengthCheck expected found = refuseIf (not (eqb expected found)) (candidateLength expected found)
 
--- 11: "overflow (total)"
+-- 11: the candidate's sum must be finite
 abbrev pub candidateDistanceCheck : Float → Verdict
 candidateDistanceCheck total = refuseIf (notFinite total) (candidateDistance total)
 
--- 12: "distance above the radius (radius)"
+-- 12: the candidate must not be farther than the radius
 unfoldable pub candidateOutsideCheck : Float → Float → Verdict
 unfolding lt
 candidateOutsideCheck R d = refuseIf (lt R d) (candidateOutside R)
 
--- 13: "not finite (it)"
+-- 13: the widened radius must be finite
 abbrev pub widenedRadiusCheck : Float → Verdict
 widenedRadiusCheck radius = refuseIf (notFinite radius) (widenedRadius radius)
 
--- 14: "over 4,096 distances, or points not n times as many (distances' length)"
+-- 14: at most 4,096 places for distances, and n coordinates of points for each
 abbrev pub listSizeCheck : ℕ → ℕ → ℕ → Verdict
-listSizeCheck n distances points = refuseIf (ltb 4096 distances || not (eqb points (n * distances))) (listSize distances)
+listSizeCheck n distances points = refuseIf (ltb largestList distances || not (eqb points (n * distances))) (listSize distances)

@@ -1,4 +1,4 @@
--- The job's bytes: document 01, "Job program" and refusal 1. A byte is a number below 256. Definitions only.
+-- The job's bytes: docs/SPECIFICATION.md, "Job program" and refusal 1. A byte is a number below 256. Definitions only.
 use Prim.Native.Nat.{ℕ, zero, suc, _+_, _-_, _*_, _/_}
 use mathlib.Core.Bool.{Bool, cond}
 use mathlib.Core.List.{List, [], _∷_, _++_, map}
@@ -17,7 +17,7 @@ unfoldable pub numberAt : List ℕ → ℕ → ℕ → ℕ
 unfolding littleEndian
 numberAt input offset size = littleEndian (take size (drop offset input))
 
--- "Items are 8 bytes little-endian": so many from an offset on
+-- so many items of 8 bytes each, from an offset on
 unfoldable pub itemsAt : List ℕ → ℕ → ℕ → List ℕ
 unfolding numberAt
 itemsAt input offset zero = []
@@ -28,7 +28,7 @@ pub data Section : Type 0 where
   items : List ℕ → ℕ → Section
   section-fault : ℕ → Section
 
--- a section at an offset, "after its count (4 bytes, unsigned, little-endian)"; `right` says which counts are not wrong
+-- a section at an offset: a count of 4 bytes, then its items; `right` says which counts are not wrong
 unfoldable pub section : List ℕ → (ℕ → Bool) → ℕ → Section
 unfolding numberAt itemsAt
 section input right offset =
@@ -55,7 +55,7 @@ unfoldable pub andThen : Section → (List ℕ → ℕ → Layout) → Layout
 andThen (section-fault offset) go = layout-fault offset
 andThen (items xs offset) go = go xs offset
 
--- "doubles by their bits"
+-- doubles, each by its bits
 abbrev pub doubles : List ℕ → List Float
 doubles patterns = map (ofBits binary64) patterns
 
@@ -63,14 +63,14 @@ doubles patterns = map (ofBits binary64) patterns
 abbrev pub triangle : ℕ → ℕ
 triangle n = n * (n - 1) / 2
 
--- the rows below j of the n·n entries: row j has its j entries "row by row" and zeros, which are not read
-unfoldable pub rows : ℕ → List Float → ℕ → List Float
-rows n entries zero = []
-rows n entries (suc j) = rows n entries j ++ take j (drop (triangle j) entries) ++ replicate (n - j) plusZero
+-- the rows below j of the n·n entries: row j has its j entries and then zeros, which are not read
+unfoldable pub muRows : ℕ → List Float → ℕ → List Float
+muRows n entries zero = []
+muRows n entries (suc j) = muRows n entries j ++ take j (drop (triangle j) entries) ++ replicate (n - j) plusZero
 
--- "n weights; n(n-1)/2 entries mu row by row; n targets; 1 radius; 1 budget", then nothing left over
+-- the five sections, weights, mu, target, radius and budget, and nothing after them
 unfoldable pub jobOf : List ℕ → Layout
-unfolding section andThen rows ofBits
+unfolding section andThen muRows ofBits
 jobOf input =
     andThen (section input (λ count. leb count largestDimension) 0) λ weights muAt.
     let n = length weights in
@@ -81,7 +81,7 @@ jobOf input =
     cond (ltb end (length input)) (layout-fault end)
     (job
     (record {
-      table = record { weights = doubles weights; mu = rows n (doubles mu) n };
+      table = record { weights = doubles weights; mu = muRows n (doubles mu) n };
       target = doubles target;
       radius = ofBits binary64 (getD radius 0 0);
       budget = getD budget 0 0;

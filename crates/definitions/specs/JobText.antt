@@ -1,4 +1,4 @@
--- What the job prints, as bytes: document 01, "Job program". Definitions only.
+-- What the job prints, as bytes: docs/SPECIFICATION.md, "Job program". Definitions only.
 use Prim.Native.Nat.{ℕ, zero, suc, _+_, _*_, _/_, _%_}
 use Prim.Native.Char.{code}
 use Prim.Native.String.{String, [] as empty, _∷_ as _then_}
@@ -44,7 +44,7 @@ unfolding decimal
 signedDecimal (pos n) = decimal n
 signedDecimal (negsuc n) = 45 ∷ decimal (suc n)
 
--- so many "upper-case hexadecimal digits", before what follows
+-- so many upper-case hexadecimal digits, before what follows
 unfoldable pub hexadecimalBefore : ℕ → ℕ → List ℕ → List ℕ
 hexadecimalBefore zero n rest = rest
 hexadecimalBefore (suc width) n rest = hexadecimalBefore width (n / 16) (digit (n % 16) ∷ rest)
@@ -62,44 +62,44 @@ pointText (z ∷ zs) = text " " ++ signedDecimal z ++ pointText zs
 
 -- ---- refusals
 
--- "number 1 is layout, 2 to 5 table, 6 to 14 call, 15 to 18 search"
+-- a refusal's group by its number
 unfoldable pub group : ℕ → List ℕ
 unfolding text
 group number = cond (leb number 1) (text "layout") (cond (leb number 5) (text "table") (cond (leb number 14) (text "call") (text "search")))
 
--- "Refusal lines read `nearest refused 15 search`": by the word and the number
+-- the line of a refusal: the word of what was refused, the number and its group
 unfoldable pub refusalLine : List ℕ → ℕ → List ℕ
 unfolding text decimal group
 refusalLine word number = word ++ text " refused " ++ decimal number ++ text " " ++ group number ++ newline
 
 -- ---- the lines
 
--- "nearest (count, point)"
+-- the line of `nearest`: the nodes and the point
 unfoldable pub nearestLine : Answer NearestPoint → List ℕ
 unfolding text decimal pointText refusalLine
 nearestLine (found a) = text "nearest " ++ decimal (a .nodes) ++ pointText (a .point) ++ newline
 nearestLine (refused e) = refusalLine (text "nearest") (e .number)
 
--- "each point after its distance's 16 upper-case hexadecimal digits"
+-- a line for each point: its distance by 16 digits, then its coordinates
 unfoldable pub listedLines : List ListPoint → List ℕ
 unfolding hexadecimal pointText
 listedLines [] = []
 listedLines (p ∷ ps) = hexadecimal (p .distance) ++ pointText (p .point) ++ newline ++ listedLines ps
 
--- "list (nodes, points)", by the pattern of case G: the nodes, then the number of points
+-- the lines of `list`: the nodes and the number of points, then the points
 unfoldable pub listLines : Answer ListAnswer → List ℕ
 unfolding text decimal listedLines refusalLine
 listLines (found a) = text "list " ++ decimal (a .nodes) ++ text " " ++ decimal (length (a .points)) ++ newline ++ listedLines (a .points)
 listLines (refused e) = refusalLine (text "list") (e .number)
 
--- "two or more points, holds if d2 ≥ 3·d1 (product rounded once), else fails; one point, holds; no point .., none"
+-- the verdict: none without a point, holds with one; with more it holds if d2 ≥ 3·d1, the product rounded once, and else fails
 unfoldable pub ratio : List ListPoint → String
 unfolding mul le
 ratio [] = "none"
 ratio (p ∷ []) = "holds"
 ratio (p ∷ q ∷ ps) = cond (le (mul binary64 (fin false 3 (pos 0)) (p .distance)) (q .distance)) "holds" "fails"
 
--- "no list, none"
+-- without a list the verdict is none
 unfoldable pub ratioLine : Answer ListAnswer → List ℕ
 unfolding text ratio
 ratioLine (found a) = text "ratio " ++ text (ratio (a .points)) ++ newline
@@ -107,7 +107,7 @@ ratioLine (refused e) = text "ratio none" ++ newline
 
 -- ---- the job
 
--- "The program lends the list 256 places"
+-- the places that the job lends to its list
 abbrev pub jobPlaces : ℕ
 jobPlaces = 256
 
@@ -117,7 +117,7 @@ jobNearest j = nearest (j .table) (j .target) (replicate (dimension (j .table)) 
 abbrev pub jobList : Job → Answer ListAnswer
 jobList j = list (j .table) (j .target) (replicate jobPlaces plusZero) (replicate (dimension (j .table) * jobPlaces) (pos 0)) (j .radius) (j .budget)
 
--- "prints nearest .., list .., then the ratio"; "Number 1 prints only `job refused 1 layout`"
+-- the lines of nearest, of the list and of the ratio; bytes that are no job give one line alone
 unfoldable pub jobText : Layout → List ℕ
 unfolding nearest list nearestLine listLines ratioLine refusalLine
 jobText (layout-fault offset) = refusalLine (text "job") (jobLayout offset .number)

@@ -1,9 +1,9 @@
--- The numbered refusals, each with its number and what it carries: document 01, "The numbered refusals". Definitions only.
+-- The numbered refusals, each with its number and what it carries: docs/SPECIFICATION.md, "The numbered refusals". Definitions only.
 use Prim.Native.Nat.{ℕ}
 use mathlib.Core.List.{List, [], _∷_}
 use lib.Ieee.{Float}
 
--- what stands in brackets: a length, an index, an offset or a count; or a double
+-- what a refusal carries: a length, an index, an offset or a count; or a double
 pub data Value : Type 0 where
   whole : ℕ → Value
   real : Float → Value
@@ -12,74 +12,74 @@ pub record Refusal : Type 0 where
   pub number : ℕ
   pub values : List Value
 
--- 1 (its offset, the input length or the first surplus offset)
+-- 1 (an offset, or the input's length)
 abbrev pub jobLayout : ℕ → Refusal
 jobLayout offset = record { number = 1; values = whole offset ∷ [] }
 
--- 2 (weights' length)
+-- 2 (the weights' length)
 abbrev pub tableSize : ℕ → Refusal
 tableSize weights = record { number = 2; values = whole weights ∷ [] }
 
--- 3 (first index)
+-- 3 (the first index)
 abbrev pub muNonFinite : ℕ → Refusal
 muNonFinite index = record { number = 3; values = whole index ∷ [] }
 
--- 4 (first index)
+-- 4 (the first index)
 abbrev pub muRange : ℕ → Refusal
 muRange index = record { number = 4; values = whole index ∷ [] }
 
--- 5 (first index)
+-- 5 (the first index)
 abbrev pub weightRange : ℕ → Refusal
 weightRange index = record { number = 5; values = whole index ∷ [] }
 
--- 6 (expected, found)
+-- 6 (the length expected, the length found)
 abbrev pub lengthMismatch : ℕ → ℕ → Refusal
 lengthMismatch expected found = record { number = 6; values = whole expected ∷ whole found ∷ [] }
 
--- 7 (first index)
+-- 7 (the first index)
 abbrev pub nonFinite : ℕ → Refusal
 nonFinite index = record { number = 7; values = whole index ∷ [] }
 
--- 8 (radius)
+-- 8 (the radius)
 abbrev pub invalidRadius : Float → Refusal
 invalidRadius radius = record { number = 8; values = real radius ∷ [] }
 
--- 9 (budget)
+-- 9 (the budget)
 abbrev pub budgetRange : ℕ → Refusal
 budgetRange budget = record { number = 9; values = whole budget ∷ [] }
 
--- 10 (expected, found)
+-- 10 (n, the length found)
 abbrev pub candidateLength : ℕ → ℕ → Refusal
 candidateLength expected found = record { number = 10; values = whole expected ∷ whole found ∷ [] }
 
--- 11 (total)
+-- 11 (the sum)
 abbrev pub candidateDistance : Float → Refusal
 candidateDistance total = record { number = 11; values = real total ∷ [] }
 
--- 12 (radius)
+-- 12 (the radius)
 abbrev pub candidateOutside : Float → Refusal
 candidateOutside radius = record { number = 12; values = real radius ∷ [] }
 
--- 13 (it)
+-- 13 (the widened radius)
 abbrev pub widenedRadius : Float → Refusal
 widenedRadius radius = record { number = 13; values = real radius ∷ [] }
 
--- 14 (distances' length)
+-- 14 (the distances' length)
 abbrev pub listSize : ℕ → Refusal
 listSize distances = record { number = 14; values = whole distances ∷ [] }
 
--- 15 (nodes, and the radius that stood when it stopped)
+-- 15 (the nodes, the standing radius)
 abbrev pub budgetExhausted : ℕ → Float → Refusal
 budgetExhausted nodes standing = record { number = 15; values = whole nodes ∷ real standing ∷ [] }
 
--- 16 (radius)
+-- 16 (the radius)
 abbrev pub outsideRadius : Float → Refusal
 outsideRadius radius = record { number = 16; values = real radius ∷ [] }
 
--- 17 (widened radius)
+-- 17 (the widened radius)
 abbrev pub noSeed : Float → Refusal
 noSeed radius = record { number = 17; values = real radius ∷ [] }
 
--- 18 (points)
+-- 18 (the number of points)
 abbrev pub listFull : ℕ → Refusal
 listFull points = record { number = 18; values = whole points ∷ [] }

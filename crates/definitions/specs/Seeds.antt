@@ -1,4 +1,4 @@
--- `round`, `nearest_plane` and the widened radius: document 01, "Seeds". Definitions only.
+-- `round`, `nearest_plane` and the widened radius: docs/SPECIFICATION.md, "Seeds". Definitions only.
 use Prim.Native.Nat.{ℕ, zero, suc, _*_}
 use mathlib.Core.List.{List, [], _∷_, map}
 use mathlib.Core.Bool.{false}
@@ -8,26 +8,26 @@ use Rattle.rounding.specs.Integers.{toDouble, roundAway}
 use Rattle.rounding.specs.Doubles.{larger}
 use Rattle.definitions.specs.Table.{Table, dimension, entry, coordinate, one}
 
--- "`round` gives `round_away` of each number"
+-- `round`: each coefficient by `round_away`
 abbrev pub rounded : List Float → List ℤ
 rounded coefficients = map roundAway coefficients
 
--- "adds coefficient j times mu[j·n+i] for j = i+1 to n-1, rising": what is added from j on, the list being the coefficients from j on
-unfoldable pub alongFrom : ℕ → List Float → ℕ → ℕ → List Float → Float → Float
+-- a sum with the products of coefficient j and mu[j·n+i] added one by one, j rising to n - 1; the list has the coefficients from j on
+unfoldable pub sumFrom : ℕ → List Float → ℕ → ℕ → List Float → Float → Float
 unfolding add mul
-alongFrom n mu i j [] along = along
-alongFrom n mu i j (a ∷ rest) along = alongFrom n mu i (suc j) rest (add binary64 along (mul binary64 a (entry n mu j i)))
+sumFrom n mu i j [] sum = sum
+sumFrom n mu i j (a ∷ rest) sum = sumFrom n mu i (suc j) rest (add binary64 sum (mul binary64 a (entry n mu j i)))
 
 -- what `nearest_plane` has for the levels done, the lowest first: their integers, and what is left in their coefficients
 pub record Plane : Type 0 where
   pub point : List ℤ
   pub left : List Float
 
--- level i: "it starts with coefficient i, adds .., takes round_away of it as z[i], and subtracts z[i] from coefficient i"
+-- level i: its integer is `round_away` of coefficient i with the products added, and what is left is coefficient i less that integer
 unfoldable pub planeLevel : Table → List Float → ℕ → Plane → Plane
-unfolding alongFrom roundAway sub ofInt
+unfolding sumFrom roundAway sub ofInt
 planeLevel t coefficients i s =
-    let z = roundAway (alongFrom (dimension t) (t .mu) i (suc i) (s .left) (coordinate coefficients i)) in
+    let z = roundAway (sumFrom (dimension t) (t .mu) i (suc i) (s .left) (coordinate coefficients i)) in
     record { point = z ∷ s .point; left = sub binary64 (coordinate coefficients i) (toDouble z) ∷ s .left }
 
 -- the levels below i, downward
@@ -36,12 +36,12 @@ unfolding planeLevel
 planeLevels t coefficients zero s = s
 planeLevels t coefficients (suc i) s = planeLevels t coefficients i (planeLevel t coefficients i s)
 
--- "`nearest_plane` goes from i = n-1 down to 0 .. So it leaves t - z in the coefficients"
+-- `nearest_plane`: all levels, the highest first
 unfoldable pub nearestPlane : Table → List Float → Plane
 unfolding planeLevels
 nearestPlane t coefficients = planeLevels t coefficients (dimension t) (record { point = []; left = [] })
 
--- the widened radius: "radius + (2^-52·max(radius, 1))·4n, rounded in that order"
+-- the widened radius: radius + (2^-52·max(radius, 1))·4n, each operation rounded in this order
 unfoldable pub widened : ℕ → Float → Float
 unfolding add mul larger ofInt
 widened n R =

@@ -1,12 +1,12 @@
 -- A table: n weights and n·n entries mu. The target stands apart. Definitions only.
-use Prim.Native.Nat.{ℕ, _+_, _*_}
+use Prim.Native.Nat.{ℕ, _+_, _*_, _^_}
 use mathlib.Core.List.{List}
 use lib.ListN.{length, getD}
 use lib.IntN.{pos}
 use mathlib.Core.Bool.{false}
 use lib.Ieee.{Float, nan, fin}
 
--- "A table is n weights and n·n entries mu"
+-- the two slices of a table
 pub record Table : Type 0 where
   pub weights : List Float
   pub mu : List Float
@@ -43,3 +43,11 @@ coordLimit = fin false 1 (pos 52)
 -- the largest n
 abbrev pub largestDimension : ℕ
 largestDimension = 23
+
+-- the largest budget
+abbrev pub largestBudget : ℕ
+largestBudget = 2 ^ 60
+
+-- the most places that a list is lent
+abbrev pub largestList : ℕ
+largestList = 4096

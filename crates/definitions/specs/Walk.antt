@@ -1,4 +1,4 @@
--- The walk that `nearest` and `list` share: document 01, "Nearest" and "List". They differ in what a leaf does. Definitions only.
+-- The walk that `nearest` and `list` share: docs/SPECIFICATION.md, "Nearest" and "List". They differ in what a leaf does. Definitions only.
 use Prim.Native.Nat.{ℕ, zero, suc}
 use mathlib.Core.Bool.{Bool, true, false}
 use mathlib.Core.List.{List, _∷_}
@@ -9,7 +9,7 @@ use Rattle.definitions.specs.Table.{Table, weight}
 use Rattle.definitions.specs.Distance.{term}
 use Rattle.definitions.specs.Zigzag.{Next, child, none, Start, open-level, no-children, start, next}
 
--- What a walk has come to: what it keeps of its leaves, the standing radius and the nodes; or "refusal 15", with the nodes and the radius that stood
+-- What a walk has come to: what it keeps of its leaves, the standing radius and the nodes; or its end by refusal 15, with the nodes and the standing radius
 pub data Walked (K : Type 0) : Type 0 where
   ended : K → Float → ℕ → Walked K
   exhausted : ℕ → Float → Walked K
@@ -24,18 +24,18 @@ Descent K = List ℤ → Float → Walked K → Walked K
 
 -- `centerOf` is the centre of a level from the coordinates above it
 module _ {K : Type 0} (leaf : Leaf K) (centerOf : ℕ → List ℤ → Float) (t : Table) (budget : ℕ) where
-  -- "then descend to one level fewer if partial + term ≤ the standing radius": the test is given
+  -- below a child, if its partial sum is within the standing radius: the test is given
   unfoldable pub descendIf : Bool → Descent K → List ℤ → Float → Walked K → Walked K
   descendIf true down zs sum w = down zs sum w
   descendIf false down zs sum w = w
 
-  -- "At each child: if nodes ≥ budget, refusal 15; else nodes + 1, then descend": the first test is given
+  -- a child: 15 if the budget is used up, which is given; else one node more, then the descent
   unfoldable pub visit : Bool → Descent K → List ℤ → Float → K → Float → ℕ → Walked K
   unfolding descendIf le
   visit true down zs sum k standing nodes = exhausted nodes standing
   visit false down zs sum k standing nodes = descendIf (le sum standing) down zs sum (ended k standing (suc nodes))
 
-  -- "Each level tries its zigzag's children in turn", from the child given. c is the centre, p the partial sum above.
+  -- A level's children in zigzag order, from the child given. c is the centre, p the partial sum above.
   -- `fuel` makes the recursion plain. Each child costs a node, so `suc budget` never runs out (law `fuel-is-enough`).
   unfoldable pub tryChildren : Descent K → ℕ → List ℤ → Float → Float → ℕ → Next → Walked K → Walked K
   unfolding visit next term add
@@ -51,7 +51,7 @@ module _ {K : Type 0} (leaf : Leaf K) (centerOf : ℕ → List ℤ → Float) (t
   tryLevel down level zs p c no-children w = w
   tryLevel down level zs p c (open-level g) w = tryChildren down level zs p c (suc budget) (next g) w
 
-  -- a level, "with R the radius that stood on entry": remaining = R - partial
+  -- a level is entered: R is the standing radius at that moment, and the zigzag keeps R - partial
   unfoldable pub enter : Descent K → ℕ → Descent K
   unfolding tryLevel start sub
   enter down level zs p (exhausted nodes standing) = exhausted nodes standing

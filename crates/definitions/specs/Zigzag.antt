@@ -1,4 +1,4 @@
--- The order in which a level tries its integers: document 01, "Zigzag". Definitions only.
+-- The order in which a level tries its integers: docs/SPECIFICATION.md, "Zigzag". Definitions only.
 use Prim.Native.Nat.{ℕ, suc, _+_, _/_, _%_}
 use mathlib.Core.Bool.{Bool, true, false, not, _&&_, _||_, Bool·beq, cond}
 use lib.Dec.{eqb}
@@ -7,7 +7,7 @@ use lib.Ieee.{Float, le, ofInt}
 use Rattle.rounding.specs.Integers.{toDouble, roundAway, isI64}
 use Rattle.definitions.specs.Distance.{term}
 
--- "A generator holds the centre, what remained and the weight"; the other five fields are the Rust's
+-- a generator: centre, remaining and weight are the level's; the other five fields say how far it has come
 pub record Zigzag : Type 0 where
   pub center : Float
   pub remaining : Float
@@ -18,7 +18,7 @@ pub record Zigzag : Type 0 where
   pub positiveDone : Bool
   pub negativeDone : Bool
 
--- a generator, or "a level without children"
+-- a generator, or none for a level without children
 pub data Start : Type 0 where
   open-level : Zigzag → Start
   no-children : Start
@@ -28,15 +28,15 @@ pub data Next : Type 0 where
   child : ℤ → Zigzag → Next
   none : Zigzag → Next
 
--- "term ≤ remaining"
+-- an integer passes if its term is at most `remaining`
 unfoldable pub passesTest : Zigzag → ℤ → Bool
 unfolding term le
 passesTest g z = le (term (g .weight) (g .center) z) (g .remaining)
 
 -- a generator before its first child
-unfoldable pub fresh : Float → Float → Float → Zigzag
+unfoldable pub newZigzag : Float → Float → Float → Zigzag
 unfolding roundAway
-fresh c remaining w = record {
+newZigzag c remaining w = record {
   center = c;
   remaining = remaining;
   weight = w;
@@ -47,17 +47,17 @@ fresh c remaining w = record {
   negativeDone = false;
 }
 
--- "First comes m = round_away(c); if m fails term ≤ remaining, a level without children ends there"
+-- the generator of a level; there is none if m, which is `round_away` of the centre, does not pass
 unfoldable pub start : Float → Float → Float → Start
-unfolding fresh passesTest
-start c remaining w = let g = fresh c remaining w in cond (passesTest g (g .nearest)) (open-level g) no-children
+unfolding newZigzag passesTest
+start c remaining w = let g = newZigzag c remaining w in cond (passesTest g (g .nearest)) (open-level g) no-children
 
--- whether step s goes upward: "odd s goes upward if c ≥ m and downward otherwise, even s the other way"
+-- whether step s goes up: the odd steps do where c ≥ m, elsewhere the even ones
 unfoldable pub upward : Zigzag → Bool
 unfolding le ofInt
 upward g = Bool·beq (eqb (g .step % 2) 1) (le (toDouble (g .nearest)) (g .center))
 
--- "magnitude (s+1)/2 in whole division"
+-- the magnitude of step s: (s+1)/2 without remainder
 abbrev pub stepMagnitude : Zigzag → ℕ
 stepMagnitude g = (g .step + 1) / 2
 
@@ -80,7 +80,7 @@ afterStep closedUp closedDown g = record {
 }
 
 -- one step: its direction is closed already, or its candidate is a child, or it closes the direction:
--- "A direction closes for good when its candidate leaves i64 or fails the test"
+-- its candidate is no i64 or does not pass. A closed direction stays closed.
 unfoldable pub oneStep : Zigzag → Next
 unfolding upward candidate passesTest
 oneStep g =
@@ -100,8 +100,8 @@ secondStep (child z g) = child z g
 secondStep (none g) = cond (bothDone g) (none g) (oneStep g)
 
 -- the generator once it has handed out its nearest integer
-abbrev pub begun : Zigzag → Zigzag
-begun g = record {
+abbrev pub afterNearest : Zigzag → Zigzag
+afterNearest g = record {
   center = g .center;
   remaining = g .remaining;
   weight = g .weight;
@@ -116,4 +116,4 @@ begun g = record {
 -- Two steps are enough, as they try both directions: after two without a child both are closed (law `none-is-final`).
 unfoldable pub next : Zigzag → Next
 unfolding secondStep oneStep
-next g = cond (g .emittedNearest) (cond (bothDone g) (none g) (secondStep (oneStep g))) (child (g .nearest) (begun g))
+next g = cond (g .emittedNearest) (cond (bothDone g) (none g) (secondStep (oneStep g))) (child (g .nearest) (afterNearest g))

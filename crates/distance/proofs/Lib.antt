@@ -1,4 +1,3 @@
 -- Laws that several proofs cite.
-pub mod Places
 pub mod Centers
 pub mod Totals

@@ -10,46 +10,46 @@ use lib.Ieee.{Float, binary64, add, sub, mul, ofBits}
 use Rattle.rounding.specs.Integers.{toDouble}
 use Rattle.definitions.specs.Table.{Table, dimension, weight, coordinate}
 use Rattle.definitions.specs.Distance.{center, term, partial}
-use Rattle.definitions.specs.Seeds.{alongFrom}
-use Rattle.rounding.proofs.Constants.{zero-is}
+use Rattle.rounding.proofs.Interface.{zero-is}
 use Rattle.definitions.proofs.Distances.{term-is, partial-nil, partial-step}
-use Rattle.distance.specs.Residuals.{places, residuals}
-use Rattle.distance.proofs.Places.{places-cons, places-none}
+use Rattle.lists.specs.Places.{places}
+use Rattle.distance.specs.Residuals.{residuals, centerSum}
+use Rattle.lists.proofs.Places.{places-cons, places-none}
 use Rattle.distance.proofs.Centers.{residuals-nil, center-below, residuals-below}
 
-module _ (t : Table) (target : List Float) (point : List ℤ) (sized : dimension t ≤ length point) where
+module _ (t : Table) (target : List Float) (point : List ℤ) (point-fits : dimension t ≤ length point) where
   -- nothing is summed yet
   pub residuals-start : (rest : List Float) → dimension t ≤ length rest → places (dimension t) (dimension t) rest ≡ residuals target (dimension t) (places (dimension t) (dimension t) point)
   residuals-start rest fits =
       places-none (dimension t) rest fits (dimension t) (omega arith)
-      ∙ sym (ap (residuals target (dimension t)) (places-none (dimension t) point sized (dimension t) (omega arith)) ∙ residuals-nil target (dimension t))
+      ∙ sym (ap (residuals target (dimension t)) (places-none (dimension t) point point-fits (dimension t) (omega arith)) ∙ residuals-nil target (dimension t))
 
   pub sum-start : ofBits binary64 0 ≡ partial t target (places (dimension t) (dimension t) point)
-  sum-start = zero-is ∙ sym (ap (partial t target) (places-none (dimension t) point sized (dimension t) (omega arith)) ∙ partial-nil t target)
+  sum-start = zero-is ∙ sym (ap (partial t target) (places-none (dimension t) point point-fits (dimension t) (omega arith)) ∙ partial-nil t target)
 
-  module _ (rest : List Float) (fits : dimension t ≤ length rest) (depth level : ℕ) (deep : depth ≡ level + 1) (low : level < dimension t) (beside : places (dimension t) depth rest ≡ residuals target depth (places (dimension t) depth point)) (d : Float) (converted : d ≡ toDouble (getD point level (pos 0))) where
+  module _ (rest : List Float) (fits : dimension t ≤ length rest) (depth level : ℕ) (depth-is : depth ≡ level + 1) (low : level < dimension t) (rest-above : places (dimension t) depth rest ≡ residuals target depth (places (dimension t) depth point)) (d : Float) (converted : d ≡ toDouble (getD point level (pos 0))) where
     here : places (dimension t) level point ≡ getD point level (pos 0) ∷ places (dimension t) depth point
-    here = places-cons (dimension t) point sized level (pos 0) low ∙ ap (λ (k : ℕ). getD point level (pos 0) ∷ places (dimension t) k point) (sym deep)
+    here = places-cons (dimension t) point point-fits level (pos 0) low ∙ ap (λ (k : ℕ). getD point level (pos 0) ∷ places (dimension t) k point) (sym depth-is)
 
     above-length : suc level + length (places (dimension t) depth point) ≡ dimension t
-    above-length = omega (arith, length-drop depth (take (dimension t) point), length-take-le (dimension t) point sized)
+    above-length = omega (arith, length-drop depth (take (dimension t) point), length-take-le (dimension t) point point-fits)
 
     pub residuals-turn : places (dimension t) level (set rest level (sub binary64 (coordinate target level) d)) ≡ residuals target level (places (dimension t) level point)
     residuals-turn =
-        residuals-below t target rest fits depth level deep (places (dimension t) depth point) beside low (getD point level (pos 0)) (sub binary64 (coordinate target level) d) (ap (sub binary64 (coordinate target level)) converted)
+        residuals-below t target rest fits depth level depth-is (places (dimension t) depth point) rest-above low (getD point level (pos 0)) (sub binary64 (coordinate target level) d) (ap (sub binary64 (coordinate target level)) converted)
         ∙ sym (ap (residuals target level) here)
 
-    pub sum-turn : (v : Float) → v ≡ alongFrom (dimension t) (t .mu) level (level + 1) (places (dimension t) (level + 1) rest) (coordinate target level) → (s x : Float) → s ≡ partial t target (places (dimension t) depth point) → x ≡ mul binary64 (mul binary64 (weight t level) (sub binary64 v d)) (sub binary64 v d) → add binary64 s x ≡ partial t target (places (dimension t) level point)
+    pub sum-turn : (v : Float) → v ≡ centerSum t target rest level → (s x : Float) → s ≡ partial t target (places (dimension t) depth point) → x ≡ mul binary64 (mul binary64 (weight t level) (sub binary64 v d)) (sub binary64 v d) → add binary64 s x ≡ partial t target (places (dimension t) level point)
     sum-turn v e s x p q =
         ap (λ (y : Float). add binary64 y x) p
         ∙ ap (add binary64 (partial t target (places (dimension t) depth point))) one-term
         ∙ sym (ap (partial t target) here ∙ partial-step t target (getD point level (pos 0)) (places (dimension t) depth point) level above-length)
       where
-        centered : v ≡ center t target level (places (dimension t) depth point)
-        centered = center-below t target rest fits depth level deep (places (dimension t) depth point) beside v e
+        center-here : v ≡ center t target level (places (dimension t) depth point)
+        center-here = center-below t target rest fits depth level depth-is (places (dimension t) depth point) rest-above v e
 
         one-term : x ≡ term (weight t level) (center t target level (places (dimension t) depth point)) (getD point level (pos 0))
         one-term =
             q ∙ ap (λ (y : Float). mul binary64 (mul binary64 (weight t level) (sub binary64 v y)) (sub binary64 v y)) converted
             ∙ sym (term-is (weight t level) v (getD point level (pos 0)))
-            ∙ ap (λ (y : Float). term (weight t level) y (getD point level (pos 0))) centered
+            ∙ ap (λ (y : Float). term (weight t level) y (getD point level (pos 0))) center-here

@@ -2,25 +2,24 @@
 // beside the coordinates, so that a centre converts nothing. Every function here is an inner one: its callers have
 // checked the table, the target and the lengths.
 ghost use mathlib.Core.Path.{_≡_};
-ghost use Prim.Native.Nat.{_*_, _≤_, _<_, _+_};
-ghost use lib.ListN.{length};
+ghost use Prim.Native.Nat.{_+_};
 ghost use lib.Ieee.{binary64, sub, mul};
 ghost use Rattle.definitions.specs.Distance as D;
-ghost use Rattle.definitions.specs.Seeds.{alongFrom};
-ghost use Rattle.distance.specs.Residuals.{places};
-ghost use Rattle.definitions.specs.Table.{table};
-ghost use Rattle.distance.specs.View.{distanceOf};
+ghost use Rattle.definitions.specs.Seeds.{sumFrom};
+ghost use Rattle.lists.specs.Places.{places};
+ghost use Rattle.definitions.specs.Table.{largestDimension};
+ghost use Rattle.definitions.specs.Lent.{atEntry, tableAt};
+ghost use Rattle.definitions.specs.Shapes.{ShapedOut};
+ghost use Rattle.distance.specs.View.{distanceOf, CenterReady};
+use definitions::LARGEST_DIMENSION;
 use rounding::is_finite;
 use rounding::to_double;
 
 // `value` plus rest[j]·mu[j·n+level] for j from level + 1 to n - 1, rising: with `value` target[level] and `rest` the
 // residuals above the level, its centre.
 pub fn center(mu: &[f64], rest: &[f64], n: usize, level: usize, value: f64) -> f64
-    requires { ⌜ n ≤ 64 ⌝ }
-    requires { ⌜ level < n ⌝ }
-    requires { ⌜ length (now mu) ≡ n * n ⌝ }
-    requires { ⌜ n ≤ length (now rest) ⌝ }
-    ensures { λ r. ⌜ r ≡ alongFrom n (now (mu .entry)) level (level + 1) (places n (level + 1) (now (rest .entry))) value ⌝ }
+    requires { ⌜ CenterReady (now mu) (now rest) n level ⌝ }
+    ensures { λ r. ⌜ r ≡ sumFrom n (atEntry mu) level (level + 1) (places n (level + 1) (atEntry rest)) value ⌝ }
 {
     let mut sum = value;
     let mut j = level + 1;
@@ -49,14 +48,11 @@ pub enum Distance {
 
 // The sum of the terms from level n - 1 down to 0: the computed distance, or an infinity where it overflows.
 pub fn total(mu: &[f64], weights: &[f64], target: &[f64], point: &[i64]) -> f64
-    requires { ⌜ length (now weights) ≤ 23 ⌝ }
-    requires { ⌜ length (now mu) ≡ length (now weights) * length (now weights) ⌝ }
-    requires { ⌜ length (now target) ≡ length (now weights) ⌝ }
-    requires { ⌜ length (now point) ≡ length (now weights) ⌝ }
-    ensures { λ r. ⌜ r ≡ D.distance (table (now (weights .entry)) (now (mu .entry))) (now (target .entry)) (now (point .entry)) ⌝ }
+    requires { ⌜ ShapedOut largestDimension (now weights) (now mu) (now target) (now point) ⌝ }
+    ensures { λ r. ⌜ r ≡ D.distance (tableAt weights mu) (atEntry target) (atEntry point) ⌝ }
 {
     let n = weights.len();
-    let mut rest = [0.0; 23];
+    let mut rest = [0.0; LARGEST_DIMENSION];
     let mut sum = 0.0;
     let mut depth = n;
     while depth > 0 {
@@ -72,11 +68,8 @@ pub fn total(mu: &[f64], weights: &[f64], target: &[f64], point: &[i64]) -> f64
 
 // The computed distance of a point from the target, or the overflowing total.
 pub fn triangular_distance(mu: &[f64], weights: &[f64], target: &[f64], point: &[i64]) -> Distance
-    requires { ⌜ length (now weights) ≤ 23 ⌝ }
-    requires { ⌜ length (now mu) ≡ length (now weights) * length (now weights) ⌝ }
-    requires { ⌜ length (now target) ≡ length (now weights) ⌝ }
-    requires { ⌜ length (now point) ≡ length (now weights) ⌝ }
-    ensures { λ r. ⌜ r ≡ distanceOf (D.distance (table (now (weights .entry)) (now (mu .entry))) (now (target .entry)) (now (point .entry))) ⌝ }
+    requires { ⌜ ShapedOut largestDimension (now weights) (now mu) (now target) (now point) ⌝ }
+    ensures { λ r. ⌜ r ≡ distanceOf (D.distance (tableAt weights mu) (atEntry target) (atEntry point)) ⌝ }
 {
     let sum = total(mu, weights, target, point);
     if is_finite(sum) {

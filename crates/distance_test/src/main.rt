@@ -1,7 +1,7 @@
 // The computed distances of points from targets, by `triangular_distance`, and some answers of `center` and `term`
 // alone. Each line of the output has a case's name and the 16 hexadecimal digits of the answer's bits; a total that
-// overflows stands after the word `overflow`. Most cases part document 01 from one other reading, which gives other
-// bits there: the comments name it.
+// overflows stands after the word `overflow`. Most cases part the specification from one other reading, which gives
+// other bits there: the comments name it.
 //
 // The expected output was written by this program compiled as Rust, with the text of the Rust's `center` and
 // `triangular_distance` in the place of the crate `distance`. A line of `center` came from the Rust's `center` at a
@@ -9,22 +9,8 @@
 use distance::Distance;
 use printing::double;
 use printing::newline;
+use printing::values::*;
 use printing::word;
-
-const LARGEST: f64 = 1.7976931348623157e308;
-
-const SMALLEST: f64 = 5e-324;
-
-// 2^52.
-const LIMIT: f64 = 4503599627370496.0;
-
-fn infinity() -> f64 {
-    1.0 / 0.0
-}
-
-fn nan() -> f64 {
-    0.0 / 0.0
-}
 
 fn say(name: &[u8], d: Distance) {
     word(name);

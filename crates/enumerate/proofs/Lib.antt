@@ -1,3 +1,2 @@
 -- Laws that several proofs cite.
-pub mod Copies
-pub mod Walks
+pub mod Answers

@@ -1,21 +1,21 @@
 // The searches: the nearest integer vector to a target in a triangular table's metric.
 ghost use mathlib.Core.Path.{_≡_};
 ghost use mathlib.Core.List.{List};
-ghost use Prim.Native.Nat.{_*_, _≤_, _^_};
-ghost use lib.ListN.{length, take};
 ghost use lib.IntN.{ℤ};
-ghost use Rattle.definitions.specs.Table.{table};
+ghost use Rattle.definitions.specs.Table.{largestDimension};
+ghost use Rattle.definitions.specs.Shapes.{WalkShaped};
+ghost use Rattle.definitions.specs.Lent.{atEntry, atExit, tableAt};
 ghost use Rattle.definitions.specs.Nearest.{nearestWalk};
 ghost use Rattle.definitions.specs.Calls as C;
-ghost use Rattle.refusals.specs.Numbers.{numbered, verdict};
-ghost use Rattle.enumerate.specs.View.{walkedOf, answerOf, outputOf};
-use checks::budget_check;
+ghost use Rattle.refusals.specs.Numbers.{numbered};
+ghost use Rattle.enumerate.specs.View.{walkedOf, nearestAnswer, NearestWalked, NearestAnswered};
 use checks::handed_on;
-use checks::radius_check;
-use checks::search_check;
+use checks::nearest_check;
+use definitions::LARGEST_DIMENSION;
+use lists::copy_i64;
 use refusals::Refusal;
 use refusals::Verdict;
-use search::begun;
+use search::RecursiveSearch;
 use search::run;
 
 // What a nearest search gives beside the point that it writes.
@@ -30,28 +30,15 @@ pub enum NearestAnswer {
 }
 
 // How a nearest walk ended: with a point, with none, or out of budget; each with the nodes and the radius that stood.
-pub enum Ending {
+enum Ending {
     Point(u64, f64),
     Nothing(u64, f64),
     Exhausted(u64, f64),
 }
 
-// The first places of the best go to out.
-fn copy_out(best: &[i64; 23], out: &mut [i64])
-    requires { ⌜ length (now out) ≤ 23 ⌝ }
-    requires { ⌜ length (now best) ≡ 23 ⌝ }
-    ensures { λ r. ⌜ now (out .exit) ≡ take (length (now (out .entry))) (now (best .entry)) ⌝ }
-{
-    let mut i = 0;
-    while i < out.len() {
-        out[i] = best[i];
-        i += 1;
-    }
-}
-
 // The nearest walk over a table and a target that passed their checks. A point found goes to out; otherwise out is left
 // as it was.
-pub fn nearest_walk(
+fn nearest_walk(
     weights: &[f64],
     mu: &[f64],
     target: &[f64],
@@ -59,15 +46,10 @@ pub fn nearest_walk(
     radius: f64,
     budget: u64,
 ) -> Ending
-    requires { ⌜ length (now weights) ≤ 23 ⌝ }
-    requires { ⌜ length (now mu) ≡ length (now weights) * length (now weights) ⌝ }
-    requires { ⌜ length (now target) ≡ length (now weights) ⌝ }
-    requires { ⌜ length (now out) ≡ length (now weights) ⌝ }
-    requires { ⌜ budget ≤ 2 ^ 60 ⌝ }
-    ensures { λ r. ⌜ walkedOf r (now (out .exit)) ≡ nearestWalk (table (now (weights .entry)) (now (mu .entry))) (now (target .entry)) radius budget ⌝ }
-    ensures { λ r. ⌜ now (out .exit) ≡ outputOf (nearestWalk (table (now (weights .entry)) (now (mu .entry))) (now (target .entry)) radius budget) (now (out .entry)) ⌝ }
+    requires { ⌜ WalkShaped largestDimension (now weights) (now mu) (now target) (now out) budget ⌝ }
+    ensures { λ r. ⌜ NearestWalked (nearestWalk (tableAt weights mu) (atEntry target) radius budget) (atEntry out) r (atExit out) ⌝ }
 {
-    let mut rest = [0.0; 23];
+    let mut rest = [0.0; LARGEST_DIMENSION];
     let mut distances = [0.0; 0];
     let mut points = [0i64; 0];
     let mut found = 0;
@@ -85,7 +67,7 @@ pub fn nearest_walk(
         budget,
         weights.len(),
         0.0,
-        begun(radius),
+        RecursiveSearch::new(radius),
     );
     if exhausted {
         return Ending::Exhausted(end.nodes, end.radius);
@@ -93,13 +75,13 @@ pub fn nearest_walk(
     if found == 0 {
         return Ending::Nothing(end.nodes, end.radius);
     }
-    copy_out(&end.best, out);
+    copy_i64(&end.best, out);
     Ending::Point(end.nodes, end.radius)
 }
 
 // The answer that a walk's end gives, `none` being the refusal where nothing was found.
-pub fn answered(end: Ending, none: Refusal) -> NearestAnswer
-    ensures { λ r. ⌜ ((out : List ℤ) → answerOf r out ≡ C.endOfNearest (numbered none) (walkedOf end out)) ⌝ }
+fn answer_of(end: Ending, none: Refusal) -> NearestAnswer
+    ensures { λ r. ⌜ ((out : List ℤ) → nearestAnswer r out ≡ C.endOfNearest (numbered none) (walkedOf end out)) ⌝ }
 {
     match end {
         Ending::Point(nodes, _) => return NearestAnswer::Found(NearestPoint { nodes }),
@@ -110,26 +92,22 @@ pub fn answered(end: Ending, none: Refusal) -> NearestAnswer
     }
 }
 
-// The checks of `nearest`: 2 to 9.
-pub fn nearest_check(
+// The search of `nearest`, `nearest_seeded` and `nearest_ml` once their checks have passed: the walk from a radius, and
+// `none` as the refusal where it finds nothing. A point found goes to out; otherwise out is left as it was.
+pub fn nearest_within(
     weights: &[f64],
     mu: &[f64],
     target: &[f64],
-    out: &[i64],
+    out: &mut [i64],
     radius: f64,
     budget: u64,
-) -> Verdict
-    ensures { λ r. ⌜ verdict r ≡ C.nearestChecks (table (now (weights .entry)) (now (mu .entry))) (now (target .entry)) (now (out .entry)) radius budget ⌝ }
+    none: Refusal,
+) -> NearestAnswer
+    requires { ⌜ WalkShaped largestDimension (now weights) (now mu) (now target) (now out) budget ⌝ }
+    ensures { λ r. ⌜ NearestAnswered (C.endOfNearest (numbered none) (nearestWalk (tableAt weights mu) (atEntry target) radius budget)) (atEntry out) r (atExit out) ⌝ }
 {
-    let search = search_check(weights, mu, target, out);
-    if let Verdict::Refuse(_) = search {
-        return search;
-    }
-    let bounded = radius_check(radius);
-    if let Verdict::Refuse(_) = bounded {
-        return bounded;
-    }
-    budget_check(budget)
+    let end = nearest_walk(weights, mu, target, out, radius, budget);
+    answer_of(end, none)
 }
 
 // Finds the nearest integer vector inside the radius and writes it to out, coordinate 0 first.
@@ -144,14 +122,13 @@ pub fn nearest(
     radius: f64,
     budget: u64,
 ) -> NearestAnswer
-    ensures { λ r. ⌜ answerOf r (now (out .exit)) ≡ C.nearest (table (now (weights .entry)) (now (mu .entry))) (now (target .entry)) (now (out .entry)) radius budget ⌝ }
-    ensures { λ r. ⌜ now (out .exit) ≡ C.nearestOutput (C.nearest (table (now (weights .entry)) (now (mu .entry))) (now (target .entry)) (now (out .entry)) radius budget) (now (out .entry)) ⌝ }
+    ensures { λ r. ⌜ NearestAnswered (C.nearest (tableAt weights mu) (atEntry target) (atEntry out) radius budget) (atEntry out) r (atExit out) ⌝ }
 {
-    let checked = nearest_check(weights, mu, target, out, radius, budget);
+    let checked = nearest_check(LARGEST_DIMENSION, weights, mu, target, out, radius, budget);
     if let Verdict::Refuse(e) = checked {
         return NearestAnswer::Refused(e);
     }
     let start = handed_on(radius);
-    let end = nearest_walk(weights, mu, target, out, start, budget);
-    answered(end, Refusal::OutsideRadius(start))
+    let none = Refusal::OutsideRadius(start);
+    nearest_within(weights, mu, target, out, start, budget, none)
 }

@@ -1,35 +1,14 @@
 // What `nearest` answers and leaves in the slice that it is lent. Each line of the output has a case's name, then
 // `found` and the node count, or the refusal's number with what it carries in brackets, then the slice at exit, in
 // square brackets. Before the call it holds 7, -8, 9 and the smallest i64, or 7 in 23 places, and so it must after a
-// refusal. Where a case parts document 01 from another reading, its comment names that.
+// refusal. Where a case parts the specification from another reading, its comment names that.
 //
 // The expected output of every call that the Rust knows is the Rust's: this program compiled as Rust, with the oracle
 // in the place of the crate `enumerate` (tools/oracle/examples/enumerate_test.rs). The lines of refusals 2 to 5 and 9,
-// which the Rust does not have, are document 01's.
+// which the Rust does not have, are the specification's.
 use enumerate::NearestAnswer;
+use printing::values::*;
 use refusals::Verdict;
-
-const LARGEST: f64 = 1.7976931348623157e308;
-
-const SMALLEST: f64 = 5e-324;
-
-// 2^52 and the next double.
-const LIMIT: f64 = 4503599627370496.0;
-
-const BEYOND: f64 = 4503599627370497.0;
-
-// The largest budget, 2^60.
-const MOST: u64 = 1152921504606846976;
-
-const EVERY: u64 = 18446744073709551615;
-
-fn infinity() -> f64 {
-    1.0 / 0.0
-}
-
-fn nan() -> f64 {
-    0.0 / 0.0
-}
 
 fn nearest(
     name: &[u8],
@@ -42,10 +21,7 @@ fn nearest(
 ) {
     printing::word(name);
     match enumerate::nearest(weights, mu, target, out, radius, budget) {
-        NearestAnswer::Found(point) => {
-            printing::word(b" found ");
-            io::print_decimal(1, point.nodes);
-        }
+        NearestAnswer::Found(point) => printing::found(point.nodes),
         NearestAnswer::Refused(e) => printing::verdict(Verdict::Refuse(e)),
     }
     printing::integers(out);
@@ -60,14 +36,12 @@ fn one(name: &[u8], weight: f64, target: f64, radius: f64, budget: u64) {
     nearest(name, &weights, &mu, &targets, &mut out, radius, budget);
 }
 
-// Only the entry at 2 is read.
 fn two(name: &[u8], weights: [f64; 2], entry: f64, target: [f64; 2], radius: f64, budget: u64) {
-    let mu = [nan(), -infinity(), entry, LARGEST];
+    let mu = mu_of_two(entry);
     let mut out = [7, -8];
     nearest(name, &weights, &mu, &target, &mut out, radius, budget);
 }
 
-// The entries are those at 3, 6 and 7.
 fn three(
     name: &[u8],
     weights: [f64; 3],
@@ -76,22 +50,12 @@ fn three(
     radius: f64,
     budget: u64,
 ) {
-    let mu = [
-        nan(),
-        -LARGEST,
-        nan(),
-        entries[0],
-        infinity(),
-        nan(),
-        entries[1],
-        entries[2],
-        nan(),
-    ];
+    let mu = mu_of_three(entries);
     let mut out = [7, -8, 9];
     nearest(name, &weights, &mu, &target, &mut out, radius, budget);
 }
 
-// ---- document 01's cases
+// ---- the specification's cases
 
 // Other readings: a node early out of budget, at B and E; a node late, at D and F; out of budget before the first
 // test, at C; pruning where a sum equals the radius, at B and E; the first point found kept at equal distance, at E;
@@ -354,17 +318,8 @@ fn dimensions() {
     weights[7] = 2.5;
     weights[15] = 0.7;
     weights[22] = 1.9;
-    let mut mu = [0.2; 529];
-    mu[22] = nan();
-    mu[23] = -0.7;
-    mu[253] = 0.3;
-    mu[506] = -4.0;
-    mu[527] = 0.9;
-    let mut target = [0.7; 23];
-    target[1] = -0.3;
-    target[5] = 1.9;
-    target[13] = -1.2;
-    target[22] = 0.4;
+    let mu = mu_of_23();
+    let target = target_of_23();
     let mut out = [7; 23];
     nearest(b"n = 23, 15:", &weights, &mu, &target, &mut out, 5.0, 20000);
     nearest(b"n = 23, 16:", &weights, &mu, &target, &mut out, 3.2, 30000);
@@ -396,7 +351,7 @@ fn sizes() {
 }
 
 fn entries(name: &[u8], a: f64, b: f64, c: f64, weights: [f64; 3]) {
-    let mu = [nan(), nan(), nan(), a, LARGEST, infinity(), b, c, nan()];
+    let mu = mu_of_three([a, b, c]);
     table(name, &weights, &mu);
 }
 

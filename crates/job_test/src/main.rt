@@ -1,30 +1,16 @@
 // Prints, for each job file that is named in the arguments, its name and the text of its job.
-use jobs::OUTPUT_SIZE;
-use jobs::Printed;
-use jobs::answer_job;
 
-// Prints a job's text.
-fn print(input: &[u8]) {
-    let mut out = [0u8; OUTPUT_SIZE];
-    let printed = answer_job(input, &mut out);
-    if let Printed::Bytes(size) = printed {
-        io::write_all(1, &out[..size]);
-    }
-}
-
-// Reads a file's first 65,536 bytes and prints its job's text.
+// Prints a file's name and the text of its job.
 fn print_file(name: &[u8]) {
     let fd = os::open_read(name);
     if fd < 0 {
         os::fail(name);
         return;
     }
-    let mut input = io::large_buffer();
-    let count = io::read_full(fd, &mut input);
-    libc::close(fd);
     io::write_all(1, name);
     io::write_all(1, b":\n");
-    print(&input[..count]);
+    job_io::answer_file(fd);
+    libc::close(fd);
 }
 
 // Prints the file that an argument names.

@@ -11,10 +11,10 @@ use lib.Ieee.{Float}
 use Rattle.definitions.specs.Listing.{ListPoint}
 use Rattle.definitions.specs.Calls.{coordinates}
 use Rattle.definitions.proofs.Answers.{coordinates-nil, coordinates-cons}
-use Rattle.sorting.specs.All.{none, more}
-use Rattle.sorting.specs.Indices.{AllBelow}
-use Rattle.sorting.specs.Rows.{row}
-use Rattle.sorting.proofs.Places.{row-within}
+use Rattle.lists.specs.All.{none, more}
+use Rattle.lists.specs.All.{AllBelow}
+use Rattle.definitions.specs.Rows.{row}
+use Rattle.sorting.proofs.Comparison.{row-within}
 
 -- one point more
 pub coordinates-more : (ps : List ListPoint) (p : ListPoint) → coordinates (ps ++ p ∷ []) ≡ coordinates ps ++ p .point

@@ -9,10 +9,14 @@ use lib.Ieee.{Float}
 use Rattle.definitions.specs.Walk.{Walked, ended, exhausted}
 use Rattle.definitions.specs.Listing.{ListPoint, sorted}
 use Rattle.definitions.specs.Refusals.{Refusal}
-use Rattle.definitions.specs.Calls.{Answer, found, refused, ListAnswer, written, coordinates, listDistances, listPoints}
+use Rattle.definitions.specs.Calls.{Answer, found, refused, written, coordinates, listDistances, listPoints}
+use Rattle.definitions.specs.Calls as C
 use Rattle.definitions.proofs.Answers.{distances-found, distances-refused, points-found, points-refused}
-use Rattle.theorems.proofs.Sorting.{sorted-length}
-use Rattle.listing.specs.View.{countsOf, endingOf}
+use Rattle.lists.proofs.Permutations.{same-length}
+use Rattle.sorting.proofs.Sorted.{sorted-keeps}
+use Rattle.listing.specs.View.{listAnswer, countsOf, endingOf, ListAnswered}
+use Rattle.listing.specs.Ready.{ListWritten}
+use Rattle.listing.specs.declared.ListAnswer.{ListAnswer}
 use Rattle.listing.specs.declared.ListEnding.the-variants.{Ended, Exhausted}
 
 -- ---- the ending
@@ -28,21 +32,19 @@ ending-ended (exhausted k R) m c e = absurd (Ended≢Exhausted m c k R (sym e))
 ending-ended (ended ps R k) m c e = let a : k ≡ m = cc in let b : length ps ≡ c = cc in (ps, R, ap (ended ps R) a, b)
 
 -- ---- the answer
-module _ (a : Answer ListAnswer) (distances : List Float) (points : List ℤ) where
-  pub answer-refused : (e : Refusal) → a ≡ refused e → (refused e ≡ countsOf a) × (distances ≡ listDistances a distances) × (points ≡ listPoints a points)
-  answer-refused e q = (
-    sym (ap countsOf q),
-    sym (ap (λ (x : Answer ListAnswer). listDistances x distances) q ∙ distances-refused e distances),
-    sym (ap (λ (x : Answer ListAnswer). listPoints x points) q ∙ points-refused e points),
-  )
+module _ (a : Answer C.ListAnswer) (r : ListAnswer) (distances : List Float) (points : List ℤ) where
+  pub answer-refused : (e : Refusal) → listAnswer r ≡ refused e → a ≡ refused e → ListAnswered a r distances distances points points
+  answer-refused e t q = record {
+    tells = t ∙ sym (ap countsOf q);
+    writes-distances = sym (ap (λ (x : Answer C.ListAnswer). listDistances x distances) q ∙ distances-refused e distances);
+    writes-points = sym (ap (λ (x : Answer C.ListAnswer). listPoints x points) q ∙ points-refused e points);
+  }
 
-  pub answer-found : (m : ℕ) (ps : List ListPoint) → a ≡ found (record { nodes = m; points = sorted ps }) →
-      (found (record { nodes = m; points = length ps }) ≡ countsOf a)
-      × (written (map (λ (p : ListPoint). p .distance) (sorted ps)) distances ≡ listDistances a distances)
-      × (written (coordinates (sorted ps)) points ≡ listPoints a points)
-  answer-found m ps q =
-      let l : ListAnswer = record { nodes = m; points = sorted ps } in (
-        ap (λ (k : ℕ). found (record { nodes = m; points = k })) (sym (sorted-length ps)) ∙ sym (ap countsOf q),
-        sym (ap (λ (x : Answer ListAnswer). listDistances x distances) q ∙ distances-found l distances),
-        sym (ap (λ (x : Answer ListAnswer). listPoints x points) q ∙ points-found l points),
-      )
+  pub answer-found : (m : ℕ) (ps : List ListPoint) → listAnswer r ≡ found (record { nodes = m; points = length ps }) → a ≡ found (record { nodes = m; points = sorted ps }) → {qs : List ListPoint} {distances′ : List Float} {points′ : List ℤ} → qs ≡ sorted ps → ListWritten qs distances distances′ points points′ → ListAnswered a r distances distances′ points points′
+  answer-found m ps t q same w =
+      let l : C.ListAnswer = record { nodes = m; points = sorted ps } in
+      record {
+        tells = t ∙ ap (λ (k : ℕ). found (record { nodes = m; points = k })) (same-length (sorted-keeps ps)) ∙ sym (ap countsOf q);
+        writes-distances = w .writes-distances ∙ ap (λ (l : List ListPoint). written (map (λ (p : ListPoint). p .distance) l) distances) same ∙ sym (ap (λ (x : Answer C.ListAnswer). listDistances x distances) q ∙ distances-found l distances);
+        writes-points = w .writes-points ∙ ap (λ (l : List ListPoint). written (coordinates l) points) same ∙ sym (ap (λ (x : Answer C.ListAnswer). listPoints x points) q ∙ points-found l points);
+      }

@@ -2,7 +2,6 @@
 pub mod Walks
 pub mod Writing
 pub mod Coordinates
-pub mod Doubles
 pub mod Found
 pub mod Ordering
 pub mod Endings

@@ -8,16 +8,16 @@ use lib.ListN.{length, getD, take, drop, length-drop, take-append-drop}
 use lib.Seq.{length-take-le, getD-take, take-suc, drop-append-le, take-append-le}
 use lib.IntN.{ℤ}
 use lib.Ieee.{Float, nan, binary64}
-use Rattle.rounding.proofs.Value.{NonNegative}
+use Rattle.rounding.specs.Kinds.{NonNegative}
 use Rattle.definitions.specs.Listing.{ListPoint, sorted}
-use Rattle.sorting.specs.All.{All, none, more}
-use Rattle.sorting.specs.Indices.{AllBelow}
-use Rattle.sorting.specs.Rows.{row, rows}
-use Rattle.sorting.proofs.Permutations.{reversed, all-kept}
-use Rattle.sorting.proofs.Each.{counted-below}
+use Rattle.lists.specs.All.{All, none, more}
+use Rattle.lists.specs.All.{AllBelow}
+use Rattle.definitions.specs.Rows.{row, rows}
+use Rattle.lists.proofs.Permutations.{reversed, all-kept}
+use Rattle.definitions.proofs.Verdicts.{counted-below}
 use Rattle.definitions.proofs.ListedOrder.{Listed, listed-order}
 use Rattle.sorting.proofs.Mapping.{rows-counted}
-use Rattle.sorting.proofs.Places.{row-fits}
+use Rattle.sorting.proofs.Comparison.{row-fits}
 use Rattle.sorting.proofs.Sorted.{sorted-reversed}
 
 -- ---- the distances of points
@@ -46,7 +46,7 @@ front n j xs ys h =
     let b : n ≤ length (drop j xs) = simp length-drop (omega arith) in
     ap (λ (l : List ℤ). take n l) (drop-append-le j xs ys a) ∙ take-append-le n (drop j xs) ys b
 
-module _ (n k : ℕ) (distances : List Float) (points : List ℤ) (places : k ≤ length distances) (shaped : length points ≡ length distances * n) where
+module _ (n k : ℕ) (distances : List Float) (points : List ℤ) (places : k ≤ length distances) (points-length : length points ≡ length distances * n) where
   abbrev firsts : List Float
   firsts = take k distances
 

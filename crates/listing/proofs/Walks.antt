@@ -4,12 +4,11 @@ use mathlib.Core.List.{List, reverse}
 use Prim.Native.Nat.{ℕ, min}
 use native.Mathlib.Omega.{arith}
 use lib.ListN.{length, take}
-use lib.IntN.{ℤ}
 use lib.Ieee.{Float}
 use Rattle.definitions.specs.Walk.{Walked, ended, exhausted}
 use Rattle.definitions.specs.Listing.{ListPoint}
-use Rattle.sorting.specs.Rows.{rows}
-use Rattle.search.specs.View.{Search}
+use Rattle.definitions.specs.Rows.{rows}
+use Rattle.search.specs.Call.{State}
 use Rattle.search.proofs.Outcomes.{Found}
 use Rattle.listing.specs.View.{endingOf}
 use Rattle.listing.specs.declared.ListEnding.the-variants.{Ended}
@@ -21,18 +20,18 @@ exhausted-unlisted w l S e ps R m q =
     let z : _≡_ {A = ℕ} 0 1 = cc in
     omega (arith, z)
 
-module _ (n : ℕ) (s : Search) (distances : List Float) (points : List ℤ) (w : Walked (List ListPoint)) (l : Found n s distances points w) where
-  pub found-ending : Ended (s .nodes) (s .listed) ≡ endingOf w
-  found-ending = ap (Ended (s .nodes)) (sym (l .count)) ∙ sym (ap endingOf (l .is))
+module _ (n : ℕ) (x : State) (w : Walked (List ListPoint)) (l : Found n x w) where
+  pub found-ending : Ended (x .search .nodes) (x .search .listed) ≡ endingOf w
+  found-ending = ap (Ended (x .search .nodes)) (sym (l .count)) ∙ sym (ap endingOf (l .is))
 
   -- the places hold its points in the order of their finding, as far as there was room
-  pub found-stored : (room : ℕ) → length distances ≡ room → (ps : List ListPoint) (R : Float) (m : ℕ) → w ≡ ended ps R m → rows n (min (length ps) room) distances points ≡ take room (reverse ps)
-  found-stored room e ps R m q =
-      let x : ended (l .all) (s .radius) (s .nodes) ≡ ended ps R m = sym (l .is) ∙ q in
+  pub found-stored : (places : ℕ) → length (x .distances) ≡ places → (ps : List ListPoint) (R : Float) (m : ℕ) → w ≡ ended ps R m → rows n (min (length ps) places) (x .distances) (x .points) ≡ take places (reverse ps)
+  found-stored places e ps R m q =
+      let both : ended (l .all) (x .search .radius) (x .search .nodes) ≡ ended ps R m = sym (l .is) ∙ q in
       let own : l .all ≡ ps = cc in
-      ap (λ (i : ℕ). rows n (min (length ps) i) distances points) (sym e)
-      ∙ ap (λ (xs : List ListPoint). rows n (min (length xs) (length distances)) distances points) (sym own)
-      ∙ ap (λ (k : ℕ). rows n (min k (length distances)) distances points) (l .count)
+      ap (λ (i : ℕ). rows n (min (length ps) i) (x .distances) (x .points)) (sym e)
+      ∙ ap (λ (xs : List ListPoint). rows n (min (length xs) (length (x .distances))) (x .distances) (x .points)) (sym own)
+      ∙ ap (λ (k : ℕ). rows n (min k (length (x .distances))) (x .distances) (x .points)) (l .count)
       ∙ sym (l .stored)
-      ∙ ap (λ (xs : List ListPoint). take (length distances) (reverse xs)) own
+      ∙ ap (λ (xs : List ListPoint). take (length (x .distances)) (reverse xs)) own
       ∙ ap (λ (k : ℕ). take k (reverse ps)) e

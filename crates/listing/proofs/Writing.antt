@@ -1,11 +1,16 @@
 -- Writing over the first places of a list: one more, or a run of them more. Assumes nothing.
 use mathlib.Core.Path.{_≡_, refl, ap, sym, _∙_}
 use mathlib.Core.List.{List, [], _∷_, _++_, map}
-use Prim.Native.Nat.{ℕ, suc, _+_, _≤_, _<_}
+use Prim.Native.Nat.{ℕ, suc, _+_, _-_, _≤_, _<_}
+use native.Mathlib.Nat.{le-of-eq}
 use native.Mathlib.Numerals.{add-one}
 use native.Mathlib.Omega.{arith}
-use lib.ListN.{length, getD, set, take, drop, length-append, length-map}
-use lib.Seq.{paste, append-snoc, take-suc, drop-cons, set-at, take-at, drop-append-add, drop-drop, length-take-le}
+use lib.ListN.{length, getD, set, take, drop, length-append, length-map, length-take, length-drop}
+use lib.Seq.{take-all, append-snoc, take-suc, drop-cons, set-at, take-at, drop-append-add, drop-drop, length-take-le}
+use borrow.Rule.Slice.PartMut.{midOf, putMid}
+use Rattle.lists.specs.Over.{over}
+use Rattle.lists.proofs.Over.{over-length}
+use Rattle.lists.proofs.Copies.{copied-part}
 use Rattle.definitions.specs.Calls.{written}
 
 module _ {A : Type 0} where
@@ -19,14 +24,34 @@ module _ {A : Type 0} where
       ∙ ap (λ (k : ℕ). xs ++ y ∷ [] ++ drop k old) count
 
   -- a run of elements more
-  pub written-run : (xs ys old : List A) (at n : ℕ) → length xs ≡ at → n ≤ length ys → paste (written xs old) at ys n ≡ written (xs ++ take n ys) old
-  written-run xs ys old at n e f =
+  pub written-run : (xs ys old : List A) (at : ℕ) → length xs ≡ at → over (written xs old) at ys ≡ written (xs ++ ys) old
+  written-run xs ys old at e =
       let whole = xs ++ drop (length xs) old in
-      let count : length xs + n ≡ length (xs ++ take n ys) = omega (arith, length-append xs (take n ys), length-take-le n ys f) in
-      ap (λ (l : List A). l ++ take n ys ++ drop (at + n) whole) (take-at xs (drop (length xs) old) at e)
-      ∙ ap (λ (k : ℕ). xs ++ take n ys ++ drop (k + n) whole) (sym e)
-      ∙ ap (λ (l : List A). xs ++ take n ys ++ l) (drop-append-add xs (drop (length xs) old) n ∙ drop-drop n (length xs) old)
-      ∙ ap (λ (k : ℕ). xs ++ take n ys ++ drop k old) count
+      let count : length xs + length ys ≡ length (xs ++ ys) = omega (arith, length-append xs ys) in
+      ap (λ (l : List A). l ++ ys ++ drop (at + length ys) whole) (take-at xs (drop (length xs) old) at e)
+      ∙ ap (λ (k : ℕ). xs ++ ys ++ drop (k + length ys) whole) (sym e)
+      ∙ ap (λ (l : List A). xs ++ ys ++ l) (drop-append-add xs (drop (length xs) old) (length ys) ∙ drop-drop (length ys) (length xs) old)
+      ∙ ap (λ (k : ℕ). xs ++ ys ++ drop k old) count
+
+-- n elements of src from `from` on, copied to the places of old from at on
+module _ {A : Type 0} (old src : List A) (at from n : ℕ) (new : List A) (room : at + n ≤ length old) (inside : from + n ≤ length src) where
+  abbrev part : List A
+  part = midOf from (from + n - from) src
+
+  part-take : take n part ≡ take n (drop from src)
+  part-take =
+      let size : from + n - from ≡ n = omega arith in
+      ap (λ (k : ℕ). take n (take k (drop from src))) size
+      ∙ take-all n (take n (drop from src)) (le-of-eq (length-take-le n (drop from src) (simp length-drop (omega arith))))
+
+  part-length : n ≤ length part
+  part-length = simp (length-take, length-drop) (omega arith)
+
+  pub row-copied : new ≡ take (length (midOf at (at + n - at) old)) part → (putMid at (at + n - at) old new ≡ over old at (take n (drop from src))) × (length (over old at (take n (drop from src))) ≡ length old)
+  row-copied copied = (
+    copied-part old part at n new room part-length copied ∙ ap (over old at) part-take,
+    over-length old at (take n (drop from src)) (simp (length-take, length-drop) (omega arith)),
+  )
 
 module _ {A B : Type 0} (f : A → B) where
   map-snoc : (xs : List A) (x : A) → map f (xs ++ x ∷ []) ≡ map f xs ++ f x ∷ []

@@ -1,34 +1,34 @@
 // The list of the integer vectors within a radius.
 ghost use mathlib.Core.Path.{_≡_};
-ghost use mathlib.Core.List.{List, reverse};
-ghost use Prim.Native.Nat.{ℕ, _*_, _≤_, _^_, min};
-ghost use lib.ListN.{length, take};
-ghost use lib.Ieee.{Float};
-ghost use Rattle.definitions.specs.Table.{table};
-ghost use Rattle.definitions.specs.Walk.{ended};
-ghost use Rattle.definitions.specs.Listing.{ListPoint, listWalk};
-ghost use Rattle.definitions.specs.Checks.{pass};
+ghost use lib.ListN.{length};
+ghost use Rattle.definitions.specs.Table.{table, largestDimension, largestList};
+ghost use Rattle.definitions.specs.Lent.{atEntry, atExit, tableAt};
+ghost use Rattle.definitions.specs.Listing.{listWalk};
 ghost use Rattle.definitions.specs.Calls as C;
-ghost use Rattle.refusals.specs.Numbers.{verdict};
-ghost use Rattle.sorting.specs.Rows.{rows};
-ghost use Rattle.listing.specs.View.{answerOf, countsOf, endingOf, Answered};
+ghost use Rattle.listing.specs.View.{ListAnswered, listAt};
+ghost use Rattle.listing.specs.Ready.{WalkReady, ListWalked, ListFits, WithinReady, IntoReady};
+ghost use Rattle.listing.specs.Sizes.{shortList, shortListPoints, middleListPoints, longListPoints};
 
 mod output;
 
-use checks::budget_check;
 use checks::handed_on;
-use checks::length_check;
-use checks::list_size_check;
-use checks::radius_check;
-use checks::table_check;
-use checks::target_check;
+use checks::list_check;
+use definitions::LARGEST_DIMENSION;
+use definitions::LARGEST_LIST;
+use definitions::LARGEST_LIST_POINTS;
 use output::write_first;
 use refusals::Refusal;
 use refusals::Verdict;
-use search::begun;
+use search::RecursiveSearch;
 use search::run;
 
-const LARGEST_DIMENSION: usize = 23;
+// The places of a short list, as many as the job has, and its coordinates at the largest n.
+const SHORT_LIST: usize = 256;
+
+const SHORT_LIST_POINTS: usize = SHORT_LIST * LARGEST_DIMENSION;
+
+// The coordinates of a list of the middle size: all places at n = 8.
+const MIDDLE_LIST_POINTS: usize = LARGEST_LIST * 8;
 
 // What a list gives beside the slices that it writes: the number of nodes, and of points.
 pub struct ListFound {
@@ -48,41 +48,6 @@ pub enum ListEnding {
     Exhausted(u64, f64),
 }
 
-// The checks of `list`: 2 to 9 and 14.
-fn list_check(
-    weights: &[f64],
-    mu: &[f64],
-    target: &[f64],
-    distances: &[f64],
-    points: &[i64],
-    radius: f64,
-    budget: u64,
-) -> Verdict
-    ensures { λ r. ⌜ verdict r ≡ C.listChecks (table (now (weights .entry)) (now (mu .entry))) (now (target .entry)) (now (distances .entry)) (now (points .entry)) radius budget ⌝ }
-{
-    let whole = table_check(LARGEST_DIMENSION, weights, mu);
-    if let Verdict::Refuse(_) = whole {
-        return whole;
-    }
-    let lengths = length_check(weights.len(), target.len());
-    if let Verdict::Refuse(_) = lengths {
-        return lengths;
-    }
-    let targets = target_check(target);
-    if let Verdict::Refuse(_) = targets {
-        return targets;
-    }
-    let bounded = radius_check(radius);
-    if let Verdict::Refuse(_) = bounded {
-        return bounded;
-    }
-    let paid = budget_check(budget);
-    if let Verdict::Refuse(_) = paid {
-        return paid;
-    }
-    list_size_check(weights.len(), distances.len(), points.len())
-}
-
 // The list walk over a table and a target that passed their checks. The points found go to the slices in the order of
 // finding, as far as there are places.
 fn list_walk(
@@ -94,18 +59,10 @@ fn list_walk(
     radius: f64,
     budget: u64,
 ) -> ListEnding
-    requires { ⌜ length (now weights) ≤ 23 ⌝ }
-    requires { ⌜ length (now mu) ≡ length (now weights) * length (now weights) ⌝ }
-    requires { ⌜ length (now target) ≡ length (now weights) ⌝ }
-    requires { ⌜ length (now distances) ≤ 4096 ⌝ }
-    requires { ⌜ length (now points) ≡ length (now distances) * length (now weights) ⌝ }
-    requires { ⌜ budget ≤ 2 ^ 60 ⌝ }
-    ensures { λ r. ⌜ r ≡ endingOf (listWalk (table (now (weights .entry)) (now (mu .entry))) (now (target .entry)) radius budget) ⌝ }
-    ensures { λ r. ⌜ ((ps : List ListPoint) (R : Float) (m : ℕ) → listWalk (table (now (weights .entry)) (now (mu .entry))) (now (target .entry)) radius budget ≡ ended ps R m → rows (length (now (weights .entry))) (min (length ps) (length (now (distances .entry)))) (now (distances .exit)) (now (points .exit)) ≡ take (length (now (distances .entry))) (reverse ps)) ⌝ }
-    ensures { λ r. ⌜ length (now (distances .exit)) ≡ length (now (distances .entry)) ⌝ }
-    ensures { λ r. ⌜ length (now (points .exit)) ≡ length (now (points .entry)) ⌝ }
+    requires { ⌜ WalkReady (now weights) (now mu) (now target) (now distances) (now points) budget ⌝ }
+    ensures { λ r. ⌜ ListWalked (length (atEntry weights)) (length (atEntry distances)) (listWalk (tableAt weights mu) (atEntry target) radius budget) r (atExit distances) (atExit points) ⌝ }
 {
-    let mut rest = [0.0; 23];
+    let mut rest = [0.0; LARGEST_DIMENSION];
     let mut found = 0;
     let mut exhausted = false;
     let end = run(
@@ -121,7 +78,7 @@ fn list_walk(
         budget,
         weights.len(),
         0.0,
-        begun(radius),
+        RecursiveSearch::new(radius),
     );
     if exhausted {
         return ListEnding::Exhausted(end.nodes, end.radius);
@@ -143,12 +100,8 @@ fn list_into(
     radius: f64,
     budget: u64,
 ) -> ListAnswer
-    requires { ⌜ C.listChecks (table (now weights) (now mu)) (now target) (now distances) (now points) radius budget ≡ pass ⌝ }
-    requires { ⌜ length (now measured) ≡ length (now distances) ⌝ }
-    requires { ⌜ length (now vectors) ≡ length (now points) ⌝ }
-    requires { ⌜ length (now order) ≡ length (now distances) ⌝ }
-    requires { ⌜ length (now spare) ≡ length (now distances) ⌝ }
-    ensures { λ r. ⌜ Answered (C.list (table (now (weights .entry)) (now (mu .entry))) (now (target .entry)) (now (distances .entry)) (now (points .entry)) radius budget) (now (distances .entry)) (now (points .entry)) r (now (distances .exit)) (now (points .exit)) ⌝ }
+    requires { ⌜ IntoReady (table (now weights) (now mu)) (now target) (now distances) (now points) radius budget (now measured) (now vectors) (now order) (now spare) ⌝ }
+    ensures { λ r. ⌜ ListAnswered (listAt weights mu target distances points radius budget) r (atEntry distances) (atExit distances) (atEntry points) (atExit points) ⌝ }
 {
     let n = weights.len();
     let end = list_walk(weights, mu, target, measured, vectors, radius, budget);
@@ -191,12 +144,8 @@ fn list_within(
     radius: f64,
     budget: u64,
 ) -> ListAnswer
-    requires { ⌜ C.listChecks (table (now weights) (now mu)) (now target) (now distances) (now points) radius budget ≡ pass ⌝ }
-    requires { ⌜ length (now distances) ≤ length (now measured) ⌝ }
-    requires { ⌜ length (now points) ≤ length (now vectors) ⌝ }
-    requires { ⌜ length (now distances) ≤ length (now order) ⌝ }
-    requires { ⌜ length (now distances) ≤ length (now spare) ⌝ }
-    ensures { λ r. ⌜ Answered (C.list (table (now (weights .entry)) (now (mu .entry))) (now (target .entry)) (now (distances .entry)) (now (points .entry)) radius budget) (now (distances .entry)) (now (points .entry)) r (now (distances .exit)) (now (points .exit)) ⌝ }
+    requires { ⌜ WithinReady (table (now weights) (now mu)) (now target) (now distances) (now points) radius budget (now measured) (now vectors) (now order) (now spare) ⌝ }
+    ensures { λ r. ⌜ ListAnswered (listAt weights mu target distances points radius budget) r (atEntry distances) (atExit distances) (atEntry points) (atExit points) ⌝ }
 {
     let places = distances.len();
     let size = points.len();
@@ -215,7 +164,7 @@ fn list_within(
     )
 }
 
-// `list` once its checks have passed, with arrays for all 4,096 places.
+// `list` once its checks have passed, with arrays for all places.
 fn list_long(
     weights: &[f64],
     mu: &[f64],
@@ -225,13 +174,13 @@ fn list_long(
     radius: f64,
     budget: u64,
 ) -> ListAnswer
-    requires { ⌜ C.listChecks (table (now weights) (now mu)) (now target) (now distances) (now points) radius budget ≡ pass ⌝ }
-    ensures { λ r. ⌜ Answered (C.list (table (now (weights .entry)) (now (mu .entry))) (now (target .entry)) (now (distances .entry)) (now (points .entry)) radius budget) (now (distances .entry)) (now (points .entry)) r (now (distances .exit)) (now (points .exit)) ⌝ }
+    requires { ⌜ ListFits (table (now weights) (now mu)) (now target) (now distances) (now points) radius budget largestList longListPoints ⌝ }
+    ensures { λ r. ⌜ ListAnswered (listAt weights mu target distances points radius budget) r (atEntry distances) (atExit distances) (atEntry points) (atExit points) ⌝ }
 {
-    let mut measured = [0.0; 4096];
-    let mut vectors = [0i64; 94208];
-    let mut order = [0usize; 4096];
-    let mut spare = [0usize; 4096];
+    let mut measured = [0.0; LARGEST_LIST];
+    let mut vectors = [0i64; LARGEST_LIST_POINTS];
+    let mut order = [0usize; LARGEST_LIST];
+    let mut spare = [0usize; LARGEST_LIST];
     list_within(
         weights,
         mu,
@@ -247,7 +196,7 @@ fn list_long(
     )
 }
 
-// The same with at most 32,768 coordinates, enough for all places at n = 8: a shorter array to clear.
+// The same with fewer coordinates: a shorter array to clear.
 fn list_middle(
     weights: &[f64],
     mu: &[f64],
@@ -257,14 +206,13 @@ fn list_middle(
     radius: f64,
     budget: u64,
 ) -> ListAnswer
-    requires { ⌜ C.listChecks (table (now weights) (now mu)) (now target) (now distances) (now points) radius budget ≡ pass ⌝ }
-    requires { ⌜ length (now points) ≤ 32768 ⌝ }
-    ensures { λ r. ⌜ Answered (C.list (table (now (weights .entry)) (now (mu .entry))) (now (target .entry)) (now (distances .entry)) (now (points .entry)) radius budget) (now (distances .entry)) (now (points .entry)) r (now (distances .exit)) (now (points .exit)) ⌝ }
+    requires { ⌜ ListFits (table (now weights) (now mu)) (now target) (now distances) (now points) radius budget largestList middleListPoints ⌝ }
+    ensures { λ r. ⌜ ListAnswered (listAt weights mu target distances points radius budget) r (atEntry distances) (atExit distances) (atEntry points) (atExit points) ⌝ }
 {
-    let mut measured = [0.0; 4096];
-    let mut vectors = [0i64; 32768];
-    let mut order = [0usize; 4096];
-    let mut spare = [0usize; 4096];
+    let mut measured = [0.0; LARGEST_LIST];
+    let mut vectors = [0i64; MIDDLE_LIST_POINTS];
+    let mut order = [0usize; LARGEST_LIST];
+    let mut spare = [0usize; LARGEST_LIST];
     list_within(
         weights,
         mu,
@@ -280,7 +228,7 @@ fn list_middle(
     )
 }
 
-// The same with at most 256 places, as the job has them.
+// The same with few places, as the job has them.
 fn list_short(
     weights: &[f64],
     mu: &[f64],
@@ -290,14 +238,13 @@ fn list_short(
     radius: f64,
     budget: u64,
 ) -> ListAnswer
-    requires { ⌜ C.listChecks (table (now weights) (now mu)) (now target) (now distances) (now points) radius budget ≡ pass ⌝ }
-    requires { ⌜ length (now distances) ≤ 256 ⌝ }
-    ensures { λ r. ⌜ Answered (C.list (table (now (weights .entry)) (now (mu .entry))) (now (target .entry)) (now (distances .entry)) (now (points .entry)) radius budget) (now (distances .entry)) (now (points .entry)) r (now (distances .exit)) (now (points .exit)) ⌝ }
+    requires { ⌜ ListFits (table (now weights) (now mu)) (now target) (now distances) (now points) radius budget shortList shortListPoints ⌝ }
+    ensures { λ r. ⌜ ListAnswered (listAt weights mu target distances points radius budget) r (atEntry distances) (atExit distances) (atEntry points) (atExit points) ⌝ }
 {
-    let mut measured = [0.0; 256];
-    let mut vectors = [0i64; 5888];
-    let mut order = [0usize; 256];
-    let mut spare = [0usize; 256];
+    let mut measured = [0.0; SHORT_LIST];
+    let mut vectors = [0i64; SHORT_LIST_POINTS];
+    let mut order = [0usize; SHORT_LIST];
+    let mut spare = [0usize; SHORT_LIST];
     list_within(
         weights,
         mu,
@@ -313,11 +260,11 @@ fn list_short(
     )
 }
 
-// Lists every integer vector that is admitted at the radius, by distance and then coordinates: the distances go to
-// `distances`, n coordinates for each to `points`. The answer has the number of nodes and of points. Places after the
-// last point keep their contents.
+// Lists every integer vector that is admitted at the radius, in the order of their distances, and where these are equal
+// in lexicographic order: the distances go to `distances`, n coordinates for each to `points`. The answer has the
+// number of nodes and of points. What lies behind the last point stays as it was.
 //
-// Refused: 2 to 9, the table and the call; 14, over 4,096 distances, or points not n times as many (distances' length);
+// Refused: 2 to 9, the table and the call; 14, too many places or points that don't match them (the distances' length);
 // 15, the budget ran out (nodes, the radius); 18, more points than places (points). A refusal leaves both slices as
 // they were. The call needs about 0.95 MB of stack.
 pub fn list(
@@ -329,19 +276,26 @@ pub fn list(
     radius: f64,
     budget: u64,
 ) -> ListAnswer
-    ensures { λ r. ⌜ answerOf r ≡ countsOf (C.list (table (now (weights .entry)) (now (mu .entry))) (now (target .entry)) (now (distances .entry)) (now (points .entry)) radius budget) ⌝ }
-    ensures { λ r. ⌜ now (distances .exit) ≡ C.listDistances (C.list (table (now (weights .entry)) (now (mu .entry))) (now (target .entry)) (now (distances .entry)) (now (points .entry)) radius budget) (now (distances .entry)) ⌝ }
-    ensures { λ r. ⌜ now (points .exit) ≡ C.listPoints (C.list (table (now (weights .entry)) (now (mu .entry))) (now (target .entry)) (now (distances .entry)) (now (points .entry)) radius budget) (now (points .entry)) ⌝ }
+    ensures { λ r. ⌜ ListAnswered (listAt weights mu target distances points radius budget) r (atEntry distances) (atExit distances) (atEntry points) (atExit points) ⌝ }
 {
-    let checked = list_check(weights, mu, target, distances, points, radius, budget);
+    let checked = list_check(
+        LARGEST_DIMENSION,
+        weights,
+        mu,
+        target,
+        distances,
+        points,
+        radius,
+        budget,
+    );
     if let Verdict::Refuse(e) = checked {
         return ListAnswer::Refused(e);
     }
     let start = handed_on(radius);
-    if distances.len() <= 256 {
+    if distances.len() <= SHORT_LIST {
         return list_short(weights, mu, target, distances, points, start, budget);
     }
-    if points.len() <= 32768 {
+    if points.len() <= MIDDLE_LIST_POINTS {
         return list_middle(weights, mu, target, distances, points, start, budget);
     }
     list_long(weights, mu, target, distances, points, start, budget)

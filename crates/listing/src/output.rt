@@ -1,23 +1,21 @@
 // What a list writes: the points found, in the list's order.
 ghost use mathlib.Core.Path.{_≡_};
 ghost use mathlib.Core.List.{List, map};
-ghost use Prim.Native.Nat.{ℕ, _+_, _*_, _≤_};
-ghost use lib.ListN.{length, getD, take, drop};
-ghost use lib.Seq.{paste};
-ghost use lib.Ieee.{Float, nan, binary64};
-ghost use Rattle.rounding.proofs.Value.{NonNegative};
-ghost use Rattle.definitions.specs.Listing.{ListPoint, sorted};
+ghost use Prim.Native.Nat.{ℕ};
+ghost use lib.ListN.{length, getD};
+ghost use lib.Ieee.{Float, nan};
+ghost use Rattle.definitions.specs.Lent.{atEntry, atExit};
+ghost use Rattle.definitions.specs.Listing.{sorted};
 ghost use Rattle.definitions.specs.Calls.{written, coordinates};
-ghost use Rattle.sorting.specs.All.{All};
-ghost use Rattle.sorting.specs.Rows.{row, rows};
-ghost use Rattle.sorting.specs.Indices.{AllBelow};
+ghost use Rattle.definitions.specs.Rows.{row, rows};
+ghost use Rattle.listing.specs.Ready.{DistancesReady, PointsReady, WriteReady, FirstReady, ListWritten};
+use lists::copy_i64;
 use sorting::sort_places;
 
 // Writes the distances at the places of order, in that order, over the first ones.
 fn write_distances(found: &[f64], order: &[usize], distances: &mut [f64])
-    requires { ⌜ length (now order) ≤ length (now distances) ⌝ }
-    requires { ⌜ AllBelow (length (now found)) (now order) ⌝ }
-    ensures { λ r. ⌜ now (distances .exit) ≡ written (map (λ (i : ℕ). getD (now (found .entry)) i nan) (now (order .entry))) (now (distances .entry)) ⌝ }
+    requires { ⌜ DistancesReady (now found) (now order) (now distances) ⌝ }
+    ensures { λ r. ⌜ atExit distances ≡ written (map (λ (i : ℕ). getD (atEntry found) i nan) (atEntry order)) (atEntry distances) ⌝ }
 {
     let mut i = 0;
     while i < order.len() {
@@ -27,30 +25,18 @@ fn write_distances(found: &[f64], order: &[usize], distances: &mut [f64])
     }
 }
 
-// Writes the n coordinates of `found` from an index on over those of `points` from `at` on.
-fn write_row(found: &[i64], from: usize, n: usize, at: usize, points: &mut [i64])
-    requires { ⌜ from + n ≤ length (now found) ⌝ }
-    requires { ⌜ at + n ≤ length (now points) ⌝ }
-    ensures { λ r. ⌜ now (points .exit) ≡ paste (now (points .entry)) at (drop from (now (found .entry))) n ⌝ }
-{
-    let mut i = 0;
-    while i < n {
-        points[at + i] = found[from + i];
-        i += 1;
-    }
-}
-
 // Writes the coordinates of the points at the places of order, in that order, over the first ones.
 fn write_points(found: &[i64], order: &[usize], n: usize, points: &mut [i64])
-    requires { ⌜ length (now found) ≡ length (now order) * n ⌝ }
-    requires { ⌜ length (now found) ≤ length (now points) ⌝ }
-    requires { ⌜ AllBelow (length (now order)) (now order) ⌝ }
-    ensures { λ r. ⌜ ((ds : List Float) → now (points .exit) ≡ written (coordinates (map (row n ds (now (found .entry))) (now (order .entry)))) (now (points .entry))) ⌝ }
+    requires { ⌜ PointsReady (now found) (now order) n (now points) ⌝ }
+    ensures { λ r. ⌜ ((ds : List Float) → atExit points ≡ written (coordinates (map (row n ds (atEntry found)) (atEntry order))) (atEntry points)) ⌝ }
 {
     let mut i = 0;
     while i < order.len() {
-        let place = order[i];
-        write_row(found, place * n, n, i * n, points);
+        let from = order[i] * n;
+        let from_end = from + n;
+        let to = i * n;
+        let to_end = to + n;
+        copy_i64(&found[from..from_end], &mut points[to..to_end]);
         i += 1;
     }
 }
@@ -67,16 +53,8 @@ fn write_list(
     distances: &mut [f64],
     points: &mut [i64],
 )
-    requires { ⌜ n ≤ 64 ⌝ }
-    requires { ⌜ length (now measured) ≤ 4096 ⌝ }
-    requires { ⌜ length (now vectors) ≡ length (now measured) * n ⌝ }
-    requires { ⌜ All (NonNegative binary64) (now measured) ⌝ }
-    requires { ⌜ length (now order) ≡ length (now measured) ⌝ }
-    requires { ⌜ length (now spare) ≡ length (now measured) ⌝ }
-    requires { ⌜ length (now measured) ≤ length (now distances) ⌝ }
-    requires { ⌜ length (now vectors) ≤ length (now points) ⌝ }
-    ensures { λ r. ⌜ now (distances .exit) ≡ written (map (λ (p : ListPoint). p .distance) (sorted (rows n (length (now (measured .entry))) (now (measured .entry)) (now (vectors .entry))))) (now (distances .entry)) ⌝ }
-    ensures { λ r. ⌜ now (points .exit) ≡ written (coordinates (sorted (rows n (length (now (measured .entry))) (now (measured .entry)) (now (vectors .entry))))) (now (points .entry)) ⌝ }
+    requires { ⌜ WriteReady n (now measured) (now vectors) (now order) (now spare) (now distances) (now points) ⌝ }
+    ensures { λ r. ⌜ ListWritten (sorted (rows n (length (atEntry measured)) (atEntry measured) (atEntry vectors))) (atEntry distances) (atExit distances) (atEntry points) (atExit points) ⌝ }
 {
     sort_places(measured, vectors, n, limit, order, spare);
     write_distances(measured, order, distances);
@@ -95,17 +73,8 @@ pub fn write_first(
     distances: &mut [f64],
     points: &mut [i64],
 )
-    requires { ⌜ n ≤ 64 ⌝ }
-    requires { ⌜ k ≤ 4096 ⌝ }
-    requires { ⌜ k ≤ length (now measured) ⌝ }
-    requires { ⌜ length (now vectors) ≡ length (now measured) * n ⌝ }
-    requires { ⌜ All (NonNegative binary64) (take k (now measured)) ⌝ }
-    requires { ⌜ k ≤ length (now order) ⌝ }
-    requires { ⌜ k ≤ length (now spare) ⌝ }
-    requires { ⌜ k ≤ length (now distances) ⌝ }
-    requires { ⌜ k * n ≤ length (now points) ⌝ }
-    ensures { λ r. ⌜ now (distances .exit) ≡ written (map (λ (p : ListPoint). p .distance) (sorted (rows n k (now (measured .entry)) (now (vectors .entry))))) (now (distances .entry)) ⌝ }
-    ensures { λ r. ⌜ now (points .exit) ≡ written (coordinates (sorted (rows n k (now (measured .entry)) (now (vectors .entry))))) (now (points .entry)) ⌝ }
+    requires { ⌜ FirstReady n k (now measured) (now vectors) (now order) (now spare) (now distances) (now points) ⌝ }
+    ensures { λ r. ⌜ ListWritten (sorted (rows n k (atEntry measured) (atEntry vectors))) (atEntry distances) (atExit distances) (atEntry points) (atExit points) ⌝ }
 {
     let size = k * n;
     write_list(

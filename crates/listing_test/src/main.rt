@@ -2,43 +2,20 @@
 // with the nodes and the points, or the refusal's number with what it carries in brackets, then the distances at exit,
 // as the 16 hexadecimal digits of their bits, and the points at exit, each in square brackets. Before the call the
 // distances are negative and the points are above 100, and so they must be after a refusal and past the last point.
-// Where a case parts document 01 from another reading, its comment names that.
+// Where a case parts the specification from another reading, its comment names that.
 //
 // The expected output of every call that the Rust knows is the Rust's: this program compiled as Rust, with the oracle
 // in the place of the crate `listing` (tools/oracle/examples/listing_test.rs). The lines of refusals 2 to 5, 9, 14 and
-// 18, which the Rust does not have, are document 01's.
+// 18, which the Rust does not have, are the specification's.
 use listing::ListAnswer;
+use printing::values::*;
 use refusals::Verdict;
-
-const LARGEST: f64 = 1.7976931348623157e308;
-
-const SMALLEST: f64 = 5e-324;
-
-// 2^52 and the next double.
-const LIMIT: f64 = 4503599627370496.0;
-
-const BEYOND: f64 = 4503599627370497.0;
-
-// The largest budget, 2^60.
-const MOST: u64 = 1152921504606846976;
-
-const EVERY: u64 = 18446744073709551615;
-
-fn infinity() -> f64 {
-    1.0 / 0.0
-}
-
-fn nan() -> f64 {
-    0.0 / 0.0
-}
 
 fn answered(answer: ListAnswer) {
     match answer {
         ListAnswer::Found(list) => {
-            printing::word(b" found ");
-            io::print_decimal(1, list.nodes);
-            printing::word(b" ");
-            io::print_decimal(1, list.points as u64);
+            printing::found(list.nodes);
+            printing::count(list.points as u64);
         }
         ListAnswer::Refused(e) => printing::verdict(Verdict::Refuse(e)),
     }
@@ -79,7 +56,6 @@ fn one(name: &[u8], weight: f64, target: f64, radius: f64, budget: u64) {
     );
 }
 
-// Only the entry at 2 is read.
 fn two_into(
     name: &[u8],
     weights: [f64; 2],
@@ -90,7 +66,7 @@ fn two_into(
     radius: f64,
     budget: u64,
 ) {
-    let mu = [nan(), -infinity(), entry, LARGEST];
+    let mu = mu_of_two(entry);
     list(
         name,
         &weights,
@@ -119,7 +95,6 @@ fn two(name: &[u8], weights: [f64; 2], entry: f64, target: [f64; 2], radius: f64
     );
 }
 
-// The entries are those at 3, 6 and 7.
 fn three_into(
     name: &[u8],
     weights: [f64; 3],
@@ -130,17 +105,7 @@ fn three_into(
     radius: f64,
     budget: u64,
 ) {
-    let mu = [
-        nan(),
-        -LARGEST,
-        nan(),
-        entries[0],
-        infinity(),
-        nan(),
-        entries[1],
-        entries[2],
-        nan(),
-    ];
+    let mu = mu_of_three(entries);
     list(
         name,
         &weights,
@@ -176,7 +141,7 @@ fn three(
     );
 }
 
-// ---- document 01's cases
+// ---- the specification's cases
 
 fn no_dimension(name: &[u8], distances: &mut [f64], points: &mut [i64], radius: f64, budget: u64) {
     let none = [0.0; 0];

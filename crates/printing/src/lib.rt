@@ -1,7 +1,10 @@
 // Text, numbers, lists and verdicts on standard output, for the test programs. No function tells whether a write
 // failed: what a program wrote is held to its file `stdout`.
+pub mod values;
+
 use refusals::Refusal;
 use refusals::Verdict;
+use refusals::numbers;
 
 // Writes `text` as it is.
 pub fn word(text: &[u8]) {
@@ -37,6 +40,18 @@ fn bits(x: f64) {
 pub fn integer(n: i64) {
     word(b" ");
     decimal(n);
+}
+
+// Writes a space and n in decimal.
+pub fn count(n: u64) {
+    word(b" ");
+    io::print_decimal(1, n);
+}
+
+// Writes `found` and a search's nodes, with a space before each.
+pub fn found(nodes: u64) {
+    word(b" found");
+    count(nodes);
 }
 
 // Writes a space and the 16 hexadecimal digits of x's bits, or `nan`.
@@ -76,65 +91,26 @@ pub fn doubles(values: &[f64]) {
     word(b" ]");
 }
 
-// A refusal's number, before what it carries.
-fn number(n: u64) {
-    word(b" ");
-    io::print_decimal(1, n);
-    word(b"(");
-}
-
-// Refusal n, which carries a count or an index.
-fn one(n: u64, a: u64) {
-    number(n);
-    io::print_decimal(1, a);
-    word(b")");
-}
-
-// Refusal n, which carries two lengths.
-fn two(n: u64, a: u64, b: u64) {
-    number(n);
-    io::print_decimal(1, a);
-    word(b", ");
-    io::print_decimal(1, b);
-    word(b")");
-}
-
-// Refusal n, which carries a radius or a distance.
-fn real(n: u64, x: f64) {
-    number(n);
-    bits(x);
-    word(b")");
-}
-
-// Refusal n, which carries a count and a radius.
-fn one_and_real(n: u64, a: u64, x: f64) {
-    number(n);
-    io::print_decimal(1, a);
-    word(b", ");
-    bits(x);
-    word(b")");
-}
-
+// Writes a refusal's number and, in brackets, what it carries: its whole numbers, then its double.
 fn refusal(e: Refusal) {
-    match e {
-        Refusal::TableSize(a) => one(2, a as u64),
-        Refusal::MuNonFinite(a) => one(3, a as u64),
-        Refusal::MuRange(a) => one(4, a as u64),
-        Refusal::WeightRange(a) => one(5, a as u64),
-        Refusal::LengthMismatch(a, b) => two(6, a as u64, b as u64),
-        Refusal::NonFinite(a) => one(7, a as u64),
-        Refusal::InvalidRadius(x) => real(8, x),
-        Refusal::BudgetRange(a) => one(9, a),
-        Refusal::CandidateLength(a, b) => two(10, a as u64, b as u64),
-        Refusal::CandidateDistance(x) => real(11, x),
-        Refusal::CandidateOutside(x) => real(12, x),
-        Refusal::WidenedRadius(x) => real(13, x),
-        Refusal::ListSize(a) => one(14, a as u64),
-        Refusal::BudgetExhausted(a, x) => one_and_real(15, a, x),
-        Refusal::OutsideRadius(x) => real(16, x),
-        Refusal::NoSeed(x) => real(17, x),
-        Refusal::ListFull(a) => one(18, a as u64),
+    let n = numbers(e);
+    word(b" ");
+    io::print_decimal(1, n.number as u64);
+    word(b"(");
+    if n.wholes > 0 {
+        io::print_decimal(1, n.first);
     }
+    if n.wholes > 1 {
+        word(b", ");
+        io::print_decimal(1, n.second);
+    }
+    if n.has_real {
+        if n.wholes > 0 {
+            word(b", ");
+        }
+        bits(n.real);
+    }
+    word(b")");
 }
 
 // Writes a space and `pass`, or the refusal's number and, in brackets, what it carries.

@@ -3,14 +3,17 @@ use mathlib.Core.Path.{_≡_, refl, ap, _∙_}
 use mathlib.Core.List.{List, [], _∷_, _++_}
 use Prim.Native.Nat.{ℕ, zero, suc, _+_, _*_}
 use native.Mathlib.Omega.{arith}
-use lib.ListN.{length}
-use lib.Ieee.{Float, binary64, ofBits}
+use lib.Dec.{T}
+use lib.ListN.{getD}
+use lib.Ieee.{Float, binary64, nan, fits, ofBits}
+use lib.Ieee.Bits.{ofBits-fits}
 use Rattle.definitions.specs.JobLayout.{numberAt, itemsAt, doubles}
 
-pub length-items : (input : List ℕ) (offset k : ℕ) → length (itemsAt input offset k) ≡ k
-unfolding itemsAt
-length-items input offset zero = refl
-length-items input offset (suc k) = ap suc (length-items input (offset + 8) k)
+pub doubles-fit : (patterns : List ℕ) (i : ℕ) → T (fits binary64 (getD (doubles patterns) i nan))
+unfolding fits
+doubles-fit [] i = tt
+doubles-fit (x ∷ xs) zero = ofBits-fits binary64 x
+doubles-fit (x ∷ xs) (suc i) = doubles-fit xs i
 
 pub no-doubles : (input : List ℕ) (offset : ℕ) → doubles (itemsAt input offset 0) ≡ []
 unfolding itemsAt

@@ -7,36 +7,40 @@ use native.Mathlib.Omega.{arith}
 use lib.Dec.{leb, ltb, eqb, leb·zero}
 use lib.ListN.{length, getD}
 use lib.Ieee.{binary64, ofBits}
-use borrow.Author.Tests.{ltb-false, leb-true, leb-false, eqb-true, eq-eqb, ne-eqb}
-use Rattle.definitions.specs.JobLayout.{items, section-fault, numberAt, itemsAt, section, andThen, doubles, triangle, rows, job, layout-fault}
+use borrow.Author.Tests.{ltb-true, ltb-false, leb-true, leb-false, eqb-true, eq-eqb, ne-eqb}
+use Rattle.definitions.specs.Table.{largestDimension}
+use Rattle.definitions.specs.JobLayout.{items, section-fault, numberAt, itemsAt, section, andThen, doubles, triangle, muRows, job, layout-fault}
 use Rattle.definitions.specs.JobLayout as D
 use Rattle.reading.specs.declared.Section.{Section}
 use Rattle.reading.specs.declared.Section.the-variants.{Items, Fault}
 use Rattle.reading.specs.declared.Layout.{Layout}
 use Rattle.reading.specs.declared.Layout.the-variants as L
-use Rattle.reading.specs.View.{within, sectionOf, after, layoutOf, ended, Sized, jobAt, muAt, targetAt, radiusAt, budgetAt, endAt}
-use Rattle.reading.proofs.Items.{length-items}
-use Rattle.reading.proofs.Sections.{section-short, section-wrong, section-cut, section-whole}
+use Rattle.reading.specs.View.{within, sectionOf, nextSection, layoutByLast, LayoutIs, jobAt, muAt, targetAt, radiusAt, budgetAt, endAt, sectionEnd}
+use Rattle.definitions.proofs.JobSections.{length-items, section-short, section-wrong, section-cut, section-whole}
 
 module _ (input : List ℕ) (right : ℕ → Bool) (offset : ℕ) where
+  -- a whole section as the code knows it
+  pub section-items : offset + 4 ≤ length input → {count : ℕ} → count ≡ numberAt input offset 4 → right count ≡ true → sectionEnd offset count ≤ length input → sectionOf (section input right offset) ≡ Items count (sectionEnd offset count)
+  section-items long {count} is good fits = ap sectionOf (section-whole input right offset long is good fits) ∙ ap (λ (k : ℕ). Items k (sectionEnd offset count)) (length-items input (offset + 4) count)
+
   abbrev count : ℕ
   count = numberAt input offset 4
 
   -- a section is a fault, or its count is right and it ends within the input
-  pub section-elim : (P : D.Section → Type 0) → ((v : ℕ) → P (section-fault v)) → ((k : ℕ) → right k ≡ true → offset + 4 + 8 * k ≤ length input → P (items (itemsAt input (offset + 4) k) (offset + 4 + 8 * k))) → P (section input right offset)
+  pub section-elim : (P : D.Section → Type 0) → ((v : ℕ) → P (section-fault v)) → ((k : ℕ) → right k ≡ true → sectionEnd offset k ≤ length input → P (items (itemsAt input (offset + 4) k) (sectionEnd offset k))) → P (section input right offset)
   section-elim P bad good = short (ltb (length input) (offset + 4)) refl
     where
-      cut : ltb (length input) (offset + 4) ≡ false → right count ≡ true → (b : Bool) → ltb (length input) (offset + 4 + 8 * count) ≡ b → P (section input right offset)
-      cut long ok true q = subst P (sym (section-cut input right offset long ok q)) (bad (length input))
-      cut long ok false q = subst P (sym (section-whole input right offset long ok q)) (good count ok (ltb-false (length input) (offset + 4 + 8 * count) q))
+      cut : offset + 4 ≤ length input → right count ≡ true → (b : Bool) → ltb (length input) (sectionEnd offset count) ≡ b → P (section input right offset)
+      cut long ok true q = subst P (sym (section-cut input right offset long refl ok (ltb-true (length input) (sectionEnd offset count) q))) (bad (length input))
+      cut long ok false q = let fits = ltb-false (length input) (sectionEnd offset count) q in subst P (sym (section-whole input right offset long refl ok fits)) (good count ok fits)
 
-      wrong : ltb (length input) (offset + 4) ≡ false → (b : Bool) → right count ≡ b → P (section input right offset)
-      wrong long false q = subst P (sym (section-wrong input right offset long q)) (bad offset)
-      wrong long true q = cut long q (ltb (length input) (offset + 4 + 8 * count)) refl
+      wrong : offset + 4 ≤ length input → (b : Bool) → right count ≡ b → P (section input right offset)
+      wrong long false q = subst P (sym (section-wrong input right offset long refl q)) (bad offset)
+      wrong long true q = cut long q (ltb (length input) (sectionEnd offset count)) refl
 
       short : (b : Bool) → ltb (length input) (offset + 4) ≡ b → P (section input right offset)
-      short true q = subst P (sym (section-short input right offset q)) (bad (length input))
-      short false q = wrong q (right count) refl
+      short true q = subst P (sym (section-short input right offset (ltb-true (length input) (offset + 4) q))) (bad (length input))
+      short false q = wrong (ltb-false (length input) (offset + 4) q) (right count) refl
 
 -- only the count itself is within it and itself
 pub within-one : (count k : ℕ) → eqb count k ≡ within count count k
@@ -51,12 +55,12 @@ within-one count k = from (leb count k) refl (leb k count) refl
 pub from-zero : (high k : ℕ) → within 0 high k ≡ leb k high
 from-zero high k = ap (λ (b : Bool). b && leb k high) (leb·zero k)
 
-at-most : (k : ℕ) → within 0 23 k ≡ true → k ≤ 23
-at-most k right = leb-true k 23 (sym (from-zero 23 k) ∙ right)
+pub at-most : (k : ℕ) → within 0 largestDimension k ≡ true → k ≤ largestDimension
+at-most k right = leb-true k largestDimension (sym (from-zero largestDimension k) ∙ right)
 
--- a first section has at most 23 items
+-- a first section has at most so many items
 abbrev pub Few : Section → Type 0
-Few (Items n end) = n ≤ 23
+Few (Items n end) = n ≤ largestDimension
 Few (Fault v) = Unit {0}
 
 -- two readings of right counts that agree
@@ -68,40 +72,36 @@ section-same input p q offset same =
     (same (numberAt input offset 4))
 
 module _ (input : List ℕ) where
-  -- the code's layout stands for document 01's, and has the size that its n asks for
-  abbrev pub Good : D.Layout → Layout → Type 0
-  Good l r = (layoutOf input r ≡ l) × Sized input r
-
   -- a section by its count, then what follows it
   step : (count offset m : ℕ) (go : List ℕ → ℕ → D.Layout) (rest : Section → Layout)
-      → ((v : ℕ) → Good (layout-fault v) (rest (Fault v)))
-      → (offset + 4 + 8 * count ≤ length input → Good (go (itemsAt input (offset + 4) count) (offset + 4 + 8 * count)) (rest (Items count (offset + 4 + 8 * count))))
-      → Good (andThen (section input (eqb count) offset) go) (rest (after input count (Items m offset)))
+      → ((v : ℕ) → LayoutIs input (layout-fault v) (rest (Fault v)))
+      → (sectionEnd offset count ≤ length input → LayoutIs input (go (itemsAt input (offset + 4) count) (sectionEnd offset count)) (rest (Items count (sectionEnd offset count))))
+      → LayoutIs input (andThen (section input (eqb count) offset) go) (rest (nextSection input count (Items m offset)))
   unfolding andThen
   step count offset m go rest bad good =
-      section-elim input (eqb count) offset (λ (s : D.Section). Good (andThen s go) (rest (sectionOf s))) bad λ k right fits.
+      section-elim input (eqb count) offset (λ (s : D.Section). LayoutIs input (andThen s go) (rest (sectionOf s))) bad λ k right fits.
       let same : count ≡ k = eqb-true count k right in
       subst
-      (λ (k : ℕ). Good (go (itemsAt input (offset + 4) k) (offset + 4 + 8 * k)) (rest (Items (length (itemsAt input (offset + 4) k)) (offset + 4 + 8 * k))))
+      (λ (k : ℕ). LayoutIs input (go (itemsAt input (offset + 4) k) (sectionEnd offset k)) (rest (Items (length (itemsAt input (offset + 4) k)) (sectionEnd offset k))))
       same
       (subst
-      (λ (j : ℕ). Good (go (itemsAt input (offset + 4) count) (offset + 4 + 8 * count)) (rest (Items j (offset + 4 + 8 * count))))
+      (λ (j : ℕ). LayoutIs input (go (itemsAt input (offset + 4) count) (sectionEnd offset count)) (rest (Items j (sectionEnd offset count))))
       (sym (length-items input (offset + 4) count))
       (good (omega (arith, fits, same))))
 
   -- the layout by its first section
   abbrev pub layoutFrom : Section → Layout
-  layoutFrom (Items n end) = ended input n (after input 1 (after input 1 (after input n (after input (triangle n) (Items n end)))))
+  layoutFrom (Items n end) = layoutByLast input n (nextSection input 1 (nextSection input 1 (nextSection input n (nextSection input (triangle n) (Items n end)))))
   layoutFrom (Fault v) = L.Fault v
 
-  -- what follows each section, by the items read so far: document 01's definition, taken apart
+  -- what follows each section, by the items read so far: the specification's definition, taken apart
   module _ (n : ℕ) (weights : List ℕ) where
     abbrev afterBudget : List ℕ → List ℕ → List ℕ → List ℕ → ℕ → D.Layout
     afterBudget mu target radius budget end =
         cond (ltb end (length input)) (layout-fault end)
         (job
         (record {
-          table = record { weights = doubles weights; mu = rows n (doubles mu) n };
+          table = record { weights = doubles weights; mu = muRows n (doubles mu) n };
           target = doubles target;
           radius = ofBits binary64 (getD radius 0 0);
           budget = getD budget 0 0;
@@ -119,7 +119,7 @@ module _ (input : List ℕ) where
     abbrev afterWeights : ℕ → D.Layout
     afterWeights at = andThen (section input (eqb (triangle n)) at) afterMu
 
-  module _ (n : ℕ) (few : n ≤ 23) where
+  module _ (n : ℕ) (few : n ≤ largestDimension) where
     abbrev ws : List ℕ
     ws = itemsAt input (0 + 4) n
 
@@ -132,43 +132,43 @@ module _ (input : List ℕ) where
     abbrev radii : List ℕ
     radii = itemsAt input (radiusAt n + 4) 1
 
-    last : endAt n ≤ length input → Good (afterBudget n ws mus targets radii (itemsAt input (budgetAt n + 4) 1) (endAt n)) (ended input n (Items 1 (endAt n)))
+    last : endAt n ≤ length input → LayoutIs input (afterBudget n ws mus targets radii (itemsAt input (budgetAt n + 4) 1) (endAt n)) (layoutByLast input n (Items 1 (endAt n)))
     unfolding itemsAt
     last fits = by (ltb (endAt n) (length input)) (λ q. let all = ltb-false (endAt n) (length input) q in omega (arith, all, fits))
       where
         by : (b : Bool)
             → (b ≡ false → length input ≡ endAt n)
-            → (layoutOf input (cond b (L.Fault (endAt n)) (L.Whole n)) ≡ cond b (layout-fault (endAt n)) (job (jobAt input n))) × Sized input (cond b (L.Fault (endAt n)) (L.Whole n))
-        by true all = (refl, tt)
-        by false all = (refl, (few, all refl))
+            → LayoutIs input (cond b (layout-fault (endAt n)) (job (jobAt input n))) (cond b (L.Fault (endAt n)) (L.Whole n))
+        by true all = record { means = refl; size = tt }
+        by false all = record { means = refl; size = record { small = few; size = all refl } }
 
-    rest-good : Good (afterWeights n ws (muAt n)) (layoutFrom (Items n (muAt n)))
+    rest-good : LayoutIs input (afterWeights n ws (muAt n)) (layoutFrom (Items n (muAt n)))
     rest-good =
-        step (triangle n) (muAt n) n (afterMu n ws) (λ s. ended input n (after input 1 (after input 1 (after input n s)))) (λ v. (refl, tt)) λ _.
-        step n (targetAt n) (triangle n) (afterTarget n ws mus) (λ s. ended input n (after input 1 (after input 1 s))) (λ v. (refl, tt)) λ _.
-        step 1 (radiusAt n) n (afterRadius n ws mus targets) (λ s. ended input n (after input 1 s)) (λ v. (refl, tt)) λ _.
-        step 1 (budgetAt n) 1 (afterBudget n ws mus targets radii) (λ s. ended input n s) (λ v. (refl, tt)) last
+        step (triangle n) (muAt n) n (afterMu n ws) (λ s. layoutByLast input n (nextSection input 1 (nextSection input 1 (nextSection input n s)))) (λ v. record { means = refl; size = tt }) λ _.
+        step n (targetAt n) (triangle n) (afterTarget n ws mus) (λ s. layoutByLast input n (nextSection input 1 (nextSection input 1 s))) (λ v. record { means = refl; size = tt }) λ _.
+        step 1 (radiusAt n) n (afterRadius n ws mus targets) (λ s. layoutByLast input n (nextSection input 1 s)) (λ v. record { means = refl; size = tt }) λ _.
+        step 1 (budgetAt n) 1 (afterBudget n ws mus targets radii) (λ s. layoutByLast input n s) (λ v. record { means = refl; size = tt }) last
 
   -- what follows the weights
   abbrev onward : List ℕ → ℕ → D.Layout
   onward weights at = afterWeights (length weights) weights at
 
-  few-good : Good (andThen (section input (within 0 23) 0) onward) (layoutFrom (sectionOf (section input (within 0 23) 0)))
+  few-good : LayoutIs input (andThen (section input (within 0 largestDimension) 0) onward) (layoutFrom (sectionOf (section input (within 0 largestDimension) 0)))
   unfolding andThen
   few-good =
-      section-elim input (within 0 23) 0 (λ (s : D.Section). Good (andThen s onward) (layoutFrom (sectionOf s))) (λ v. (refl, tt)) λ k right fits.
-      subst (λ (j : ℕ). Good (afterWeights j (itemsAt input (0 + 4) k) (muAt k)) (layoutFrom (Items j (muAt k)))) (sym (length-items input (0 + 4) k)) (rest-good k (at-most k right))
+      section-elim input (within 0 largestDimension) 0 (λ (s : D.Section). LayoutIs input (andThen s onward) (layoutFrom (sectionOf s))) (λ v. record { means = refl; size = tt }) λ k right fits.
+      subst (λ (j : ℕ). LayoutIs input (afterWeights j (itemsAt input (0 + 4) k) (muAt k)) (layoutFrom (Items j (muAt k)))) (sym (length-items input (0 + 4) k)) (rest-good k (at-most k right))
 
-  -- the code's layout is document 01's
-  pub layout-good : Good (D.jobOf input) (layoutFrom (sectionOf (section input (within 0 23) 0)))
+  -- the code's layout is the specification's
+  pub layout-good : LayoutIs input (D.jobOf input) (layoutFrom (sectionOf (section input (within 0 largestDimension) 0)))
   unfolding D.jobOf
   layout-good =
       subst
-      (λ (l : D.Layout). Good l (layoutFrom (sectionOf (section input (within 0 23) 0))))
-      (ap (λ (s : D.Section). andThen s onward) (section-same input (within 0 23) (λ (k : ℕ). leb k 23) 0 (from-zero 23)))
+      (λ (l : D.Layout). LayoutIs input l (layoutFrom (sectionOf (section input (within 0 largestDimension) 0))))
+      (ap (λ (s : D.Section). andThen s onward) (section-same input (within 0 largestDimension) (λ (k : ℕ). leb k largestDimension) 0 (from-zero largestDimension)))
       few-good
 
-  pub weights-few : Few (sectionOf (section input (within 0 23) 0))
+  pub weights-few : Few (sectionOf (section input (within 0 largestDimension) 0))
   weights-few =
-      section-elim input (within 0 23) 0 (λ (s : D.Section). Few (sectionOf s)) (λ v. tt) λ k right fits.
-      subst (λ (j : ℕ). j ≤ 23) (sym (length-items input (0 + 4) k)) (at-most k right)
+      section-elim input (within 0 largestDimension) 0 (λ (s : D.Section). Few (sectionOf s)) (λ v. tt) λ k right fits.
+      subst (λ (j : ℕ). j ≤ largestDimension) (sym (length-items input (0 + 4) k)) (at-most k right)

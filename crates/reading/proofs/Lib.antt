@@ -1,8 +1,6 @@
 -- Laws that several proofs cite.
 pub mod Numbers
-pub mod Sections
 pub mod Items
 pub mod Layouts
+pub mod Arrays
 pub mod Rows
-pub mod Jobs
-pub mod Prefixes

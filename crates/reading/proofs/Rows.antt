@@ -1,36 +1,19 @@
 -- mu's rows, one after another, over zeros. Assumes nothing.
-use mathlib.Core.Path.{_≡_, refl, ap, sym, subst, _∙_}
+use mathlib.Core.Path.{_≡_, ap, sym, subst, _∙_}
 use mathlib.Core.List.{List, _∷_, _++_, append-assoc, append-nil, map-append}
 use Prim.Native.Nat.{ℕ, zero, suc, _+_, _-_, _*_, _≤_, _<_}
-use native.Mathlib.Nat.{mul-suc, suc-mul, zero-mul, add-mul, add-zero, add-suc, zero-add, suc-add}
+use native.Mathlib.Nat.{suc-mul, zero-mul, add-mul, add-zero, add-suc, zero-add, suc-add}
 use native.Mathlib.Omega.{arith}
 use lib.ListN.{length, take, drop, replicate, length-append, length-drop, length-map, length-replicate, replicate-append-replicate}
 use lib.Seq.{length-take-le, take-at, drop-at, drop-append-add, drop-drop}
 use borrow.Rule.Slice.PartMut.{putMid, postOf}
 use lib.Ieee.{Float, binary64, ofBits}
 use Rattle.definitions.specs.Table.{plusZero}
-use Rattle.definitions.specs.JobLayout.{numberAt, itemsAt, doubles, triangle, rows}
-use Rattle.reading.proofs.Items.{length-items}
-
-pub take-replicate : {A : Type 0} (k n : ℕ) (a : A) → k ≤ n → take k (replicate n a) ≡ replicate k a
-take-replicate k n a h =
-    let e : n ≡ k + (n - k) = omega (arith, h) in
-    ap (λ (m : ℕ). take k (replicate m a)) e
-    ∙ ap (take k) (sym (replicate-append-replicate k (n - k) a))
-    ∙ take-at (replicate k a) (replicate (n - k) a) k (length-replicate k a)
+use Rattle.definitions.specs.JobLayout.{numberAt, itemsAt, doubles, triangle, muRows}
+use Rattle.definitions.proofs.Triangles.{triangle-suc}
+use Rattle.definitions.proofs.JobSections.{length-items}
 
 -- ---- n(n-1)/2
-pub triangle-suc : (j : ℕ) → triangle (suc j) ≡ triangle j + j
-triangle-suc zero = refl
-triangle-suc (suc i) =
-    let p : suc (suc i) - 1 ≡ suc i = omega arith in
-    let q : suc i - 1 ≡ i = omega arith in
-    let a = suc-mul (suc i) (suc i) in
-    let b = mul-suc (suc i) i in
-    let l = ap (λ (k : ℕ). suc (suc i) * k) p in
-    let r = ap (λ (k : ℕ). suc i * k) q in
-    omega (arith, a, b, l, r)
-
 pub triangle-more : (j k : ℕ) → triangle j ≤ triangle (j + k)
 triangle-more j zero = let e = ap triangle (add-zero j) in omega (arith, e)
 triangle-more j (suc k) =
@@ -78,13 +61,13 @@ module _ (n : ℕ) (entries : List Float) (enough : triangle n ≤ length entrie
       let l = length-drop (triangle j) entries in
       length-take-le j (drop (triangle j) entries) (omega (arith, more, s, l, enough))
 
-  pub length-rows : (j : ℕ) → j ≤ n → length (rows n entries j) ≡ j * n
-  unfolding rows
+  pub length-rows : (j : ℕ) → j ≤ n → length (muRows n entries j) ≡ j * n
+  unfolding muRows
   length-rows zero h = sym (zero-mul n)
   length-rows (suc j) h =
       let row = take j (drop (triangle j) entries) in
-      let a : length (rows n entries (suc j)) ≡ length (rows n entries j ++ row) + length (replicate (n - j) plusZero) = length-append (rows n entries j ++ row) (replicate (n - j) plusZero) in
-      let b = length-append (rows n entries j) row in
+      let a : length (muRows n entries (suc j)) ≡ length (muRows n entries j ++ row) + length (replicate (n - j) plusZero) = length-append (muRows n entries j ++ row) (replicate (n - j) plusZero) in
+      let b = length-append (muRows n entries j) row in
       let c = length-replicate (n - j) plusZero in
       let i = length-rows j (omega (arith, h)) in
       let r = row-length j h in
@@ -92,8 +75,8 @@ module _ (n : ℕ) (entries : List Float) (enough : triangle n ≤ length entrie
       omega (arith, a, b, c, i, r, m)
 
   -- the rows below j over zeros
-  abbrev pub filled : ℕ → List Float
-  filled j = rows n entries j ++ replicate ((n - j) * n) plusZero
+  abbrev pub rowsOverZeros : ℕ → List Float
+  rowsOverZeros j = muRows n entries j ++ replicate ((n - j) * n) plusZero
 
   -- the zeros from row j on: those of the row's own places, of the rest of the row, and of the later rows
   zeros : (j : ℕ) → j < n → replicate ((n - j) * n) plusZero ≡ replicate j plusZero ++ (replicate (n - j) plusZero ++ replicate ((n - suc j) * n) plusZero)
@@ -106,9 +89,9 @@ module _ (n : ℕ) (entries : List Float) (enough : triangle n ≤ length entrie
       ∙ sym (replicate-append-replicate j (n - j + (n - suc j) * n) plusZero)
       ∙ ap (λ (xs : List Float). replicate j plusZero ++ xs) (sym (replicate-append-replicate (n - j) ((n - suc j) * n) plusZero))
 
-  pub filled-length : (j : ℕ) → j ≤ n → length (filled j) ≡ n * n
-  filled-length j h =
-      let a = length-append (rows n entries j) (replicate ((n - j) * n) plusZero) in
+  pub length-over-zeros : (j : ℕ) → j ≤ n → length (rowsOverZeros j) ≡ n * n
+  length-over-zeros j h =
+      let a = length-append (muRows n entries j) (replicate ((n - j) * n) plusZero) in
       let b = length-rows j h in
       let c = length-replicate ((n - j) * n) plusZero in
       let d = add-mul j (n - j) n in
@@ -117,26 +100,26 @@ module _ (n : ℕ) (entries : List Float) (enough : triangle n ≤ length entrie
       omega (arith, a, b, c, d, f)
 
   -- one more row, in the place of its zeros
-  pub next-row : (j : ℕ) → j < n → (k : ℕ) → k ≡ j → putMid (j * n) k (filled j) (take j (drop (triangle j) entries)) ≡ filled (suc j)
-  unfolding rows
+  pub next-row : (j : ℕ) → j < n → (k : ℕ) → k ≡ j → putMid (j * n) k (rowsOverZeros j) (take j (drop (triangle j) entries)) ≡ rowsOverZeros (suc j)
+  unfolding muRows
   next-row j h k same =
-      let before = rows n entries j in
+      let before = muRows n entries j in
       let row = take j (drop (triangle j) entries) in
       let own = replicate (n - j) plusZero in
       let later = replicate ((n - suc j) * n) plusZero in
       let l = length-rows j (omega (arith, h)) in
-      let left = ap (λ (i : ℕ). drop (i + j) (filled j)) (sym l) ∙ drop-append-add before (replicate ((n - j) * n) plusZero) j ∙ ap (drop j) (zeros j h) ∙ drop-at (replicate j plusZero) (own ++ later) j (length-replicate j plusZero) in
-      ap (λ (i : ℕ). putMid (j * n) i (filled j) row) same
-      ∙ ap (λ (xs : List Float). xs ++ (row ++ postOf (j * n) j (filled j))) (take-at before (replicate ((n - j) * n) plusZero) (j * n) l)
-      ∙ ap (λ (xs : List Float). before ++ (row ++ xs)) (drop-drop j (j * n) (filled j) ∙ left)
+      let left = ap (λ (i : ℕ). drop (i + j) (rowsOverZeros j)) (sym l) ∙ drop-append-add before (replicate ((n - j) * n) plusZero) j ∙ ap (drop j) (zeros j h) ∙ drop-at (replicate j plusZero) (own ++ later) j (length-replicate j plusZero) in
+      ap (λ (i : ℕ). putMid (j * n) i (rowsOverZeros j) row) same
+      ∙ ap (λ (xs : List Float). xs ++ (row ++ postOf (j * n) j (rowsOverZeros j))) (take-at before (replicate ((n - j) * n) plusZero) (j * n) l)
+      ∙ ap (λ (xs : List Float). before ++ (row ++ xs)) (drop-drop j (j * n) (rowsOverZeros j) ∙ left)
       ∙ sym (append-assoc before row (own ++ later))
       ∙ sym (append-assoc (before ++ row) own later)
 
-  pub no-rows : filled 0 ≡ replicate (n * n) plusZero
-  unfolding rows
+  pub no-rows : rowsOverZeros 0 ≡ replicate (n * n) plusZero
+  unfolding muRows
   no-rows = let e : n - 0 ≡ n = omega arith in ap (λ (k : ℕ). replicate (k * n) plusZero) e
 
-  pub all-rows : filled n ≡ rows n entries n
+  pub all-rows : rowsOverZeros n ≡ muRows n entries n
   all-rows =
       let e : n - n ≡ 0 = omega arith in
-      ap (λ (k : ℕ). rows n entries n ++ replicate k plusZero) (ap (λ (k : ℕ). k * n) e ∙ zero-mul n) ∙ append-nil (rows n entries n)
+      ap (λ (k : ℕ). muRows n entries n ++ replicate k plusZero) (ap (λ (k : ℕ). k * n) e ∙ zero-mul n) ∙ append-nil (muRows n entries n)

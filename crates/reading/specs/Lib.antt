@@ -1,2 +1,3 @@
 -- What the contracts speak of.
 pub mod View
+pub mod Parts

@@ -1,12 +1,15 @@
 // The numbers and the sections in a job's bytes.
 ghost use mathlib.Core.Path.{_≡_};
 ghost use Prim.Native.Nat.{_+_, _*_, _^_, _≤_, _<_};
-ghost use lib.ListN.{length, replicate, take};
-ghost use Rattle.definitions.specs.Table.{plusZero};
-ghost use Rattle.definitions.specs.JobLayout.{numberAt, itemsAt, doubles, rows, job};
+ghost use lib.ListN.{length};
+ghost use Rattle.definitions.specs.Table.{largestDimension};
+ghost use Rattle.definitions.specs.JobLayout.{itemsAt, doubles, muRows, job};
 ghost use Rattle.definitions.specs.JobLayout as D;
-ghost use Rattle.reading.specs.View.{within, sectionOf, Ends, layoutOf, Sized, endAt, jobAt};
-ghost use Rattle.reading.specs.View as W;
+ghost use Rattle.definitions.specs.Lent.{atEntry, atExit};
+ghost use Rattle.reading.specs.View.{within, sectionOf, nextSection, EndsWithin, SectionIs, sectionEnd, layoutByLast, JobBytes, LayoutIs, jobAt, JobIs};
+ghost use Rattle.reading.specs.Parts.{NumberWithin, NumberIs, ItemsWithin, RowsWithin, ArrayHolds};
+use definitions::LARGEST_DIMENSION;
+use definitions::LARGEST_SQUARE;
 use rounding::from_bits;
 
 // A section: its number of items and the offset after it, or the value of refusal 1.
@@ -17,10 +20,8 @@ pub enum Section {
 
 // The number in `size` bytes from an offset on, little-endian.
 fn number_at(input: &[u8], offset: usize, size: usize) -> u64
-    requires { ⌜ size ≤ 8 ⌝ }
-    requires { ⌜ offset + size ≤ length (now input) ⌝ }
-    ensures { λ r. ⌜ r ≡ numberAt (now (input .entry)) offset size ⌝ }
-    ensures { λ r. ⌜ r < 2 ^ (8 * size) ⌝ }
+    requires { ⌜ NumberWithin (now input) offset size ⌝ }
+    ensures { λ r. ⌜ NumberIs (atEntry input) offset size r ⌝ }
 {
     let mut value = 0u64;
     let mut left = size;
@@ -31,11 +32,18 @@ fn number_at(input: &[u8], offset: usize, size: usize) -> u64
     value
 }
 
+// Where a section of so many items ends.
+fn section_end(offset: usize, count: usize) -> usize
+    requires { ⌜ sectionEnd offset count < 2 ^ 64 ⌝ }
+    ensures { λ r. ⌜ r ≡ sectionEnd offset count ⌝ }
+{
+    offset + 4 + 8 * count
+}
+
 // The section at an offset, whose count is to be from `low` to `high`.
 fn section_at(input: &[u8], low: usize, high: usize, offset: usize) -> Section
     requires { ⌜ offset ≤ length (now input) ⌝ }
-    ensures { λ r. ⌜ r ≡ sectionOf (D.section (now (input .entry)) (within low high) offset) ⌝ }
-    ensures { λ r. ⌜ Ends (now (input .entry)) r ⌝ }
+    ensures { λ r. ⌜ SectionIs (atEntry input) (sectionOf (D.section (atEntry input) (within low high) offset)) r ⌝ }
 {
     if input.len() < offset + 4 {
         return Section::Fault(input.len());
@@ -47,7 +55,7 @@ fn section_at(input: &[u8], low: usize, high: usize, offset: usize) -> Section
     if count > high {
         return Section::Fault(offset);
     }
-    let end = offset + 4 + 8 * count;
+    let end = section_end(offset, count);
     if input.len() < end {
         return Section::Fault(input.len());
     }
@@ -55,10 +63,9 @@ fn section_at(input: &[u8], low: usize, high: usize, offset: usize) -> Section
 }
 
 // The section after another, by its count; a fault stays.
-fn after(input: &[u8], section: Section, count: usize) -> Section
-    requires { ⌜ Ends (now input) section ⌝ }
-    ensures { λ r. ⌜ r ≡ W.after (now (input .entry)) count section ⌝ }
-    ensures { λ r. ⌜ Ends (now (input .entry)) r ⌝ }
+fn next_section(input: &[u8], section: Section, count: usize) -> Section
+    requires { ⌜ EndsWithin (now input) section ⌝ }
+    ensures { λ r. ⌜ SectionIs (atEntry input) (nextSection (atEntry input) count section) r ⌝ }
 {
     match section {
         Section::Fault(_) => return section,
@@ -68,7 +75,7 @@ fn after(input: &[u8], section: Section, count: usize) -> Section
 
 // n(n-1)/2.
 fn triangle(n: usize) -> usize
-    requires { ⌜ n ≤ 23 ⌝ }
+    requires { ⌜ n ≤ largestDimension ⌝ }
     ensures { λ r. ⌜ r ≡ D.triangle n ⌝ }
 {
     if n == 0 {
@@ -84,8 +91,8 @@ pub enum Layout {
 }
 
 // The layout by its last section: nothing may be left over.
-fn ended(input: &[u8], n: usize, budget: Section) -> Layout
-    ensures { λ r. ⌜ r ≡ W.ended (now (input .entry)) n budget ⌝ }
+fn layout_by_last(input: &[u8], n: usize, budget: Section) -> Layout
+    ensures { λ r. ⌜ r ≡ layoutByLast (atEntry input) n budget ⌝ }
 {
     match budget {
         Section::Fault(value) => return Layout::Fault(value),
@@ -100,18 +107,17 @@ fn ended(input: &[u8], n: usize, budget: Section) -> Layout
 
 // The layout of a job's bytes: five sections, then nothing left over.
 fn layout_at(input: &[u8]) -> Layout
-    ensures { λ r. ⌜ layoutOf (now (input .entry)) r ≡ D.jobOf (now (input .entry)) ⌝ }
-    ensures { λ r. ⌜ Sized (now (input .entry)) r ⌝ }
+    ensures { λ r. ⌜ LayoutIs (atEntry input) (D.jobOf (atEntry input)) r ⌝ }
 {
-    let weights = section_at(input, 0, 23, 0);
+    let weights = section_at(input, 0, LARGEST_DIMENSION, 0);
     match weights {
         Section::Fault(value) => return Layout::Fault(value),
         Section::Items(n, _) => {
-            let mu = after(input, weights, triangle(n));
-            let target = after(input, mu, n);
-            let radius = after(input, target, 1);
-            let budget = after(input, radius, 1);
-            return ended(input, n, budget);
+            let mu = next_section(input, weights, triangle(n));
+            let target = next_section(input, mu, n);
+            let radius = next_section(input, target, 1);
+            let budget = next_section(input, radius, 1);
+            return layout_by_last(input, n, budget);
         }
     }
 }
@@ -119,7 +125,7 @@ fn layout_at(input: &[u8]) -> Layout
 // The doubles from an offset on, by their bits, go to out.
 fn doubles_at(input: &[u8], offset: usize, out: &mut [f64])
     requires { ⌜ offset + 8 * length (now out) ≤ length (now input) ⌝ }
-    ensures { λ r. ⌜ now (out .exit) ≡ doubles (itemsAt (now (input .entry)) offset (length (now (out .entry)))) ⌝ }
+    ensures { λ r. ⌜ atExit out ≡ doubles (itemsAt (atEntry input) offset (length (atEntry out))) ⌝ }
 {
     let mut i = 0;
     while i < out.len() {
@@ -128,15 +134,13 @@ fn doubles_at(input: &[u8], offset: usize, out: &mut [f64])
     }
 }
 
-// mu's rows from an offset on, each of as many entries as its number, go to the n·n zeros of mu.
-fn rows_at(input: &[u8], offset: usize, n: usize, mu: &mut [f64])
-    requires { ⌜ n ≤ 23 ⌝ }
-    requires { ⌜ offset + 8 * D.triangle n ≤ length (now input) ⌝ }
-    requires { ⌜ now mu ≡ replicate (n * n) plusZero ⌝ }
-    ensures { λ r. ⌜ now (mu .exit) ≡ rows n (doubles (itemsAt (now (input .entry)) offset (D.triangle n))) n ⌝ }
+// mu's rows in a section, each of as many entries as its number, go to the n·n zeros of mu.
+fn rows_at(input: &[u8], section: usize, n: usize, mu: &mut [f64])
+    requires { ⌜ RowsWithin (now input) section n (now mu) ⌝ }
+    ensures { λ r. ⌜ atExit mu ≡ muRows n (doubles (itemsAt (atEntry input) (section + 4) (D.triangle n))) n ⌝ }
 {
     let mut j = 0;
-    let mut at = offset;
+    let mut at = section + 4;
     while j < n {
         let start = j * n;
         let end = start + j;
@@ -146,26 +150,24 @@ fn rows_at(input: &[u8], offset: usize, n: usize, mu: &mut [f64])
     }
 }
 
-// n doubles from an offset on, before zeros.
-fn vector_at(input: &[u8], offset: usize, n: usize) -> [f64; 23]
-    requires { ⌜ n ≤ 23 ⌝ }
-    requires { ⌜ offset + 8 * n ≤ length (now input) ⌝ }
-    ensures { λ r. ⌜ take n r ≡ doubles (itemsAt (now (input .entry)) offset n) ⌝ }
+// The n doubles of a section, before zeros.
+fn vector_at(input: &[u8], section: usize, n: usize) -> [f64; LARGEST_DIMENSION]
+    requires { ⌜ ItemsWithin (now input) section n n ⌝ }
+    ensures { λ r. ⌜ ArrayHolds largestDimension n (doubles (itemsAt (atEntry input) (section + 4) n)) r ⌝ }
 {
-    let mut out = [0.0; 23];
-    doubles_at(input, offset, &mut out[..n]);
+    let mut out = [0.0; LARGEST_DIMENSION];
+    doubles_at(input, section + 4, &mut out[..n]);
     out
 }
 
-// The n·n entries of mu, out of its rows from an offset on, before zeros.
-fn mu_at(input: &[u8], offset: usize, n: usize) -> [f64; 529]
-    requires { ⌜ n ≤ 23 ⌝ }
-    requires { ⌜ offset + 8 * D.triangle n ≤ length (now input) ⌝ }
-    ensures { λ r. ⌜ take (n * n) r ≡ rows n (doubles (itemsAt (now (input .entry)) offset (D.triangle n))) n ⌝ }
+// The n·n entries of mu, out of its rows in a section, before zeros.
+fn mu_at(input: &[u8], section: usize, n: usize) -> [f64; LARGEST_SQUARE]
+    requires { ⌜ ItemsWithin (now input) section n (D.triangle n) ⌝ }
+    ensures { λ r. ⌜ ArrayHolds (largestDimension * largestDimension) (n * n) (muRows n (doubles (itemsAt (atEntry input) (section + 4) (D.triangle n))) n) r ⌝ }
 {
-    let mut out = [0.0; 529];
+    let mut out = [0.0; LARGEST_SQUARE];
     let size = n * n;
-    rows_at(input, offset, n, &mut out[..size]);
+    rows_at(input, section, n, &mut out[..size]);
     out
 }
 
@@ -175,28 +177,27 @@ pub struct Job {
     pub whole: bool,
     pub fault: usize,
     pub n: usize,
-    pub weights: [f64; 23],
-    pub mu: [f64; 529],
-    pub target: [f64; 23],
+    pub weights: [f64; LARGEST_DIMENSION],
+    pub mu: [f64; LARGEST_SQUARE],
+    pub target: [f64; LARGEST_DIMENSION],
     pub radius: f64,
     pub budget: u64,
 }
 
 // The job of n weights in bytes that have its layout.
 fn job_at(input: &[u8], n: usize) -> Job
-    requires { ⌜ n ≤ 23 ⌝ }
-    requires { ⌜ length (now input) ≡ endAt n ⌝ }
-    ensures { λ r. ⌜ W.jobOf r ≡ job (jobAt (now (input .entry)) n) ⌝ }
-    ensures { λ r. ⌜ r .n ≤ 23 ⌝ }
+    requires { ⌜ JobBytes (now input) n ⌝ }
+    ensures { λ r. ⌜ JobIs (job (jobAt (atEntry input) n)) r ⌝ }
 {
-    let below = 4 + 8 * n;
-    let along = below + 4 + 8 * triangle(n);
-    let limit = along + 4 + 8 * n;
-    let weights = vector_at(input, 4, n);
-    let mu = mu_at(input, below + 4, n);
-    let target = vector_at(input, along + 4, n);
-    let radius = from_bits(number_at(input, limit + 4, 8));
-    let budget = number_at(input, limit + 16, 8);
+    let mu_section = section_end(0, n);
+    let target_section = section_end(mu_section, triangle(n));
+    let radius_section = section_end(target_section, n);
+    let budget_section = section_end(radius_section, 1);
+    let weights = vector_at(input, 0, n);
+    let mu = mu_at(input, mu_section, n);
+    let target = vector_at(input, target_section, n);
+    let radius = from_bits(number_at(input, radius_section + 4, 8));
+    let budget = number_at(input, budget_section + 4, 8);
     Job {
         whole: true,
         fault: 0,
@@ -211,15 +212,14 @@ fn job_at(input: &[u8], n: usize) -> Job
 
 // Reads a job's bytes: the job, or the value of refusal 1.
 pub fn read(input: &[u8]) -> Job
-    ensures { λ r. ⌜ W.jobOf r ≡ D.jobOf (now (input .entry)) ⌝ }
-    ensures { λ r. ⌜ r .n ≤ 23 ⌝ }
+    ensures { λ r. ⌜ JobIs (D.jobOf (atEntry input)) r ⌝ }
 {
     match layout_at(input) {
         Layout::Whole(n) => return job_at(input, n),
         Layout::Fault(fault) => {
-            let weights = [0.0; 23];
-            let mu = [0.0; 529];
-            let target = [0.0; 23];
+            let weights = [0.0; LARGEST_DIMENSION];
+            let mu = [0.0; LARGEST_SQUARE];
+            let target = [0.0; LARGEST_DIMENSION];
             return Job {
                 whole: false,
                 fault,

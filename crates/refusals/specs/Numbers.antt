@@ -1,12 +1,19 @@
--- Document 01's number and values of each case of the code's `Refusal`, and the verdict of a check. Definitions only.
+-- The number and values of each case of the code's `Refusal`, as the code tells them, and the verdict of a check. Definitions only.
+use Prim.Native.Nat.{ℕ}
+use mathlib.Core.Bool.{Bool, true, false}
+use mathlib.Core.List.{List, [], _∷_}
+use lib.ListN.{length, getD}
+use lib.Ieee.{Float}
+use Rattle.definitions.specs.Table.{plusZero}
 use Rattle.definitions.specs.Refusals as D
 use Rattle.definitions.specs.Checks.{Verdict as DVerdict, pass, refuse}
 use Rattle.refusals.specs.declared.Refusal.{Refusal}
 use Rattle.refusals.specs.declared.Refusal.the-variants.{TableSize, MuNonFinite, MuRange, WeightRange, LengthMismatch, NonFinite, InvalidRadius, BudgetRange, CandidateLength, CandidateDistance, CandidateOutside, WidenedRadius, ListSize, BudgetExhausted, OutsideRadius, NoSeed, ListFull}
+use Rattle.refusals.specs.declared.Carried.{Carried}
 use Rattle.refusals.specs.declared.Verdict.{Verdict}
 use Rattle.refusals.specs.declared.Verdict.the-variants.{Pass, Refuse}
 
--- "a definition gives this paper's number and values for each of the enum's cases"
+-- each case of the enum as the specification's refusal, with its number and values
 abbrev pub numbered : Refusal → D.Refusal
 numbered (TableSize a) = D.tableSize a
 numbered (MuNonFinite a) = D.muNonFinite a
@@ -26,7 +33,36 @@ numbered (OutsideRadius a) = D.outsideRadius a
 numbered (NoSeed a) = D.noSeed a
 numbered (ListFull a) = D.listFull a
 
--- what a check says, in document 01's terms
+-- what a check says, as the definitions' verdict
 abbrev pub verdict : Verdict → DVerdict
 verdict Pass = pass
 verdict (Refuse e) = refuse (numbered e)
+
+-- ---- the values, by their kinds
+
+-- the whole numbers, in their order
+abbrev pub wholesOf : List D.Value → List ℕ
+wholesOf [] = []
+wholesOf (D.whole n ∷ values) = n ∷ wholesOf values
+wholesOf (D.real x ∷ values) = wholesOf values
+
+-- whether there is a double
+abbrev pub hasReal : List D.Value → Bool
+hasReal [] = false
+hasReal (D.whole n ∷ values) = hasReal values
+hasReal (D.real x ∷ values) = true
+
+-- the double, or plus zero
+abbrev pub realOf : List D.Value → Float
+realOf [] = plusZero
+realOf (D.whole n ∷ values) = realOf values
+realOf (D.real x ∷ values) = x
+
+abbrev pub carrying : ℕ → ℕ → ℕ → ℕ → Bool → Float → Carried
+carrying number wholes first second hasReal real = record { number = number; wholes = wholes; first = first; second = second; «has_real» = hasReal; real = real }
+
+-- a refusal as the code tells it, with 0 for what it does not carry
+abbrev pub carriedBy : D.Refusal → Carried
+carriedBy e =
+    let wholes = wholesOf (e .values) in
+    carrying (e .number) (length wholes) (getD wholes 0 0) (getD wholes 1 0) (hasReal (e .values)) (realOf (e .values))

@@ -1,8 +1,12 @@
-// The numbered refusals of the library's calls, with what each carries. Number 1 belongs to the job
-// program. specs/Numbers.antt gives each case's number and values.
+// The numbered refusals of the library's calls, with what each carries, and the one function that takes them apart. Number 1
+// belongs to the job program. specs/Numbers.antt gives each case's number and values.
+ghost use mathlib.Core.Path.{_≡_};
+ghost use Rattle.refusals.specs.Numbers.{numbered, carriedBy, carrying};
+ghost use mathlib.Core.Bool.{true, false};
+ghost use Rattle.definitions.specs.Table.{plusZero};
 
 pub enum Refusal {
-    // 2: n above the largest dimension, or mu not n·n long (weights' length).
+    // 2: more weights than the largest dimension, or mu of another length than n·n (the weights' length).
     TableSize(usize),
     // 3: an entry that is read is not finite (its index in the n·n slice).
     MuNonFinite(usize),
@@ -26,13 +30,13 @@ pub enum Refusal {
     CandidateOutside(f64),
     // 13: the widened radius is not finite (it).
     WidenedRadius(f64),
-    // 14: over 4,096 distances, or points not n times as many (distances' length).
+    // 14: more than 4,096 places for distances, or the wrong number of coordinates for them (the distances' length).
     ListSize(usize),
     // 15: the budget ran out (nodes, and the radius that stood).
     BudgetExhausted(u64, f64),
     // 16: no point inside the radius (radius).
     OutsideRadius(f64),
-    // 17: a seeded or ml search found nothing (widened radius).
+    // 17: nothing was found by a seeded or ml search (the widened radius).
     NoSeed(f64),
     // 18: more points than places (points).
     ListFull(usize),
@@ -42,4 +46,96 @@ pub enum Refusal {
 pub enum Verdict {
     Pass,
     Refuse(Refusal),
+}
+
+// A refusal as numbers: which it is, its whole numbers in their order and how many they are, and its double and whether it
+// has one. What it does not carry is 0.
+pub struct Carried {
+    pub number: u32,
+    pub wholes: u32,
+    pub first: u64,
+    pub second: u64,
+    pub has_real: bool,
+    pub real: f64,
+}
+
+// One whole number.
+fn whole(number: u32, first: u64) -> Carried
+    ensures { λ r. ⌜ r ≡ carrying number 1 first 0 false plusZero ⌝ }
+{
+    Carried {
+        number,
+        wholes: 1,
+        first,
+        second: 0,
+        has_real: false,
+        real: 0.0,
+    }
+}
+
+// Two whole numbers.
+fn pair(number: u32, first: u64, second: u64) -> Carried
+    ensures { λ r. ⌜ r ≡ carrying number 2 first second false plusZero ⌝ }
+{
+    Carried {
+        number,
+        wholes: 2,
+        first,
+        second,
+        has_real: false,
+        real: 0.0,
+    }
+}
+
+// A double.
+fn double(number: u32, real: f64) -> Carried
+    ensures { λ r. ⌜ r ≡ carrying number 0 0 0 true real ⌝ }
+{
+    Carried {
+        number,
+        wholes: 0,
+        first: 0,
+        second: 0,
+        has_real: true,
+        real,
+    }
+}
+
+// A whole number and a double.
+fn whole_and_double(number: u32, first: u64, real: f64) -> Carried
+    ensures { λ r. ⌜ r ≡ carrying number 1 first 0 true real ⌝ }
+{
+    Carried {
+        number,
+        wholes: 1,
+        first,
+        second: 0,
+        has_real: true,
+        real,
+    }
+}
+
+// A refusal's number and what it carries.
+pub fn numbers(e: Refusal) -> Carried
+    ensures { λ r. ⌜ r ≡ carriedBy (numbered e) ⌝ }
+{
+    match e {
+        Refusal::TableSize(n) => whole(2, n as u64),
+        Refusal::MuNonFinite(i) => whole(3, i as u64),
+        Refusal::MuRange(i) => whole(4, i as u64),
+        Refusal::WeightRange(i) => whole(5, i as u64),
+        Refusal::LengthMismatch(n, m) => pair(6, n as u64, m as u64),
+        Refusal::NonFinite(i) => whole(7, i as u64),
+        Refusal::InvalidRadius(x) => double(8, x),
+        Refusal::BudgetRange(b) => whole(9, b),
+        Refusal::CandidateLength(n, m) => pair(10, n as u64, m as u64),
+        Refusal::CandidateDistance(x) => double(11, x),
+        Refusal::CandidateOutside(x) => double(12, x),
+        Refusal::WidenedRadius(x) => double(13, x),
+        Refusal::ListSize(n) => whole(14, n as u64),
+        Refusal::BudgetExhausted(m, x) => whole_and_double(15, m, x),
+        Refusal::OutsideRadius(x) => double(16, x),
+        Refusal::NoSeed(x) => double(17, x),
+        Refusal::ListFull(k) => whole(18, k as u64),
+    }
 }

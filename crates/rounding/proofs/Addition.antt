@@ -9,7 +9,8 @@ use lib.Dec.{T, ltb, ltb→lt, nltb→le}
 use lib.Ieee.{Float, nan, inf, fin, Format, up, down, round, sum, add, le, isNan}
 use lib.Ieee.Fits.{down-pos}
 use Rattle.rounding.proofs.Scaled.{scale, scaled, scale-pos, sub-mul, scaled-exact}
-use Rattle.rounding.proofs.Value.{Number, Finite, number, finite-lt, offset, mid, ord, ord-is, le→ord, ord→le}
+use Rattle.rounding.specs.Kinds.{Number, Finite}
+use Rattle.rounding.proofs.Value.{number, finite-lt, offset, mid, ord, ord-is, le→ord, ord→le}
 use Rattle.rounding.proofs.Rounding.{round-number, ord-round, roundFraction-same, rnd, rnd-up, rnd-down, rnd-mono, rnd-fix}
 
 -- ---- a sum of two signed fractions: A / C and B / C are X and Y of the smallest values

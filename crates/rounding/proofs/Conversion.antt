@@ -15,7 +15,8 @@ use lib.Ieee.Back.{round-whole}
 use lib.Ieee.Scale.{overflow}
 use Rattle.rounding.specs.Integers.{isI64}
 use Rattle.rounding.proofs.Scaled.{scale, scaled, scale-pos, one-digit, scaled-exact}
-use Rattle.rounding.proofs.Value.{Number, Finite, Weight, finite-of-lt, mid, ord, ord→le}
+use Rattle.rounding.specs.Kinds.{Number, Finite}
+use Rattle.rounding.proofs.Value.{Weight, finite-of-lt, mid, ord, ord→le}
 use Rattle.rounding.proofs.Rounding.{roundFraction, roundScaled, round-sign, round-number, scaled-round, ord-round, roundFraction-same, roundScaled-mono, roundScaled-exact}
 
 pub ofInt-number : (f : Format) (z : ℤ) → Number f (ofInt f z)

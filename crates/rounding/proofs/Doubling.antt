@@ -13,6 +13,7 @@ use lib.Ieee.Fits.{down-pos, and-l, and-r}
 use lib.Ieee.Exact.{HasValue, round-exact}
 use lib.Ieee.Nearest.{div-same}
 use Rattle.rounding.specs.Integers.{nearestWhole, roundAway}
+use Rattle.rounding.specs.Rounded.{Rounds}
 
 -- half of a whole part, a half upward
 abbrev half : ℕ → ℕ
@@ -90,12 +91,6 @@ stays-below m (negsuc k) small under =
     room m D h p = omega arith
 
 -- ---- the sum of a value above 0 and below 2 ^ 63 with itself
--- r is the nearest integer to x, and -r to -x
-pub record Rounds (x : Float) (r : ℕ) : Type 0 where
-  pub under : r < 2 ^ 63
-  pub own : pos r ≡ roundAway x
-  pub negated : negℤ (pos r) ≡ roundAway (neg x)
-
 pub record Doubled (x : Float) : Type 0 where
   pub above : T (lt (fin true 1 (pos 0)) (add binary64 x x))
   pub below : T (lt (add binary64 x x) (fin false 1 (pos 64)))

@@ -10,7 +10,8 @@ use lib.Pow.{pow-add, pow-pos}
 use lib.Ieee.{Float, nan, inf, fin, Format, prec, emax, low, up, down, fits, eq}
 use lib.Ieee.Fits.{up-pos, down-pos, and-l}
 use Rattle.rounding.specs.Doubles.{negative}
-use Rattle.rounding.proofs.Value.{NonNegative, ord, ord→eq}
+use Rattle.rounding.specs.Kinds.{NonNegative}
+use Rattle.rounding.proofs.Value.{ord, ord→eq}
 
 -- ---- the exponent
 

@@ -13,7 +13,8 @@ use lib.Ieee.Scale.{finite}
 use borrow.Author.Tests.{lt-ltb, le-ltb}
 use Rattle.rounding.specs.Integers.{isI64, roundAway}
 use Rattle.rounding.proofs.Scaled.{scale, scaled, split, scaled-exact}
-use Rattle.rounding.proofs.Value.{Finite, number, mid, ord, ord-is, lt→ord}
+use Rattle.rounding.specs.Kinds.{Finite}
+use Rattle.rounding.proofs.Value.{number, mid, ord, ord-is, lt→ord}
 use Rattle.rounding.proofs.Rounding.{roundScaled, roundScaled-mid, roundScaled-zero, rnd, rnd-mono, rnd-fix}
 use Rattle.rounding.proofs.Subtraction.{ord-sub, sub-number}
 use Rattle.rounding.proofs.Integers.{leZ-total, leZ-cases, ltZ→suc-leZ, ltZ→leZ-pred, isI64-suc, isI64-pred}

@@ -12,7 +12,8 @@ use lib.Ieee.{Float, nan, inf, fin, Format, prec, low, up, down, fits}
 use lib.Ieee.Fits.{down-pos}
 use Rattle.rounding.specs.Integers.{nearestWhole}
 use Rattle.rounding.proofs.Scaled.{scale, scaled, scale-pos, split, shift, fits-digits, scaled-shape, scaled-exact}
-use Rattle.rounding.proofs.Value.{Finite, mid, scaled-mid}
+use Rattle.rounding.specs.Kinds.{Finite}
+use Rattle.rounding.proofs.Value.{mid, scaled-mid}
 use Rattle.rounding.proofs.Rounding.{roundScaled, roundScaled-mono, roundScaled-mid, roundScaled-zero, roundScaled-fix}
 use Rattle.rounding.proofs.Conversion.{ordInt, roundScaled-whole}
 

@@ -11,7 +11,8 @@ use lib.Ieee.{Float, nan, inf, fin, Format, prec, up, down, unlike, round, mul, 
 use lib.Ieee.Fits.{down-pos}
 use Rattle.rounding.specs.Doubles.{negative}
 use Rattle.rounding.proofs.Scaled.{scale, scaled, scale-pos, scale-scale-pos, overflow-pos, scaled-exact, scaled-zero}
-use Rattle.rounding.proofs.Value.{Number, Finite, NonNegative, Weight, number, weight-finite, weight-nonneg, inf-number, finite-lt, offset, mid, ord, ord-is, ord-inf, nonneg-mid, above-mid, mid-sign, le→ord, ord→le, float-le-refl, float-le-inf}
+use Rattle.rounding.specs.Kinds.{Number, Finite, NonNegative}
+use Rattle.rounding.proofs.Value.{Weight, number, weight-finite, weight-nonneg, inf-number, finite-lt, offset, mid, ord, ord-is, ord-inf, nonneg-mid, above-mid, mid-sign, le→ord, ord→le, float-le-refl, float-le-inf}
 use Rattle.rounding.proofs.Rounding.{roundFraction, round-sign, round-number, scaled-round, roundFraction-mono, roundFraction-same, roundScaled-zero}
 use Rattle.rounding.proofs.Conversion.{ofInt-weight}
 

@@ -9,7 +9,8 @@ use lib.Ieee.Fits.{neg-fits}
 use lib.Ieee.Scale.{finite}
 use Rattle.rounding.specs.Doubles.{negative}
 use Rattle.rounding.proofs.Scaled.{scaled, scaled-neg}
-use Rattle.rounding.proofs.Value.{Number, Finite, offset, mid, ord, ord-is, scaled-mid}
+use Rattle.rounding.specs.Kinds.{Number, Finite}
+use Rattle.rounding.proofs.Value.{offset, mid, ord, ord-is, scaled-mid}
 
 pub neg-neg : (x : Float) → neg (neg x) ≡ x
 unfolding neg

@@ -8,7 +8,8 @@ use lib.Dec.{T}
 use lib.Ieee.{Float, nan, inf, fin, Format, up, down, round, sum, add, sub, le, lt, isNan}
 use lib.Ieee.Scale.{finite}
 use Rattle.rounding.specs.Doubles.{negative}
-use Rattle.rounding.proofs.Value.{Finite, NonNegative, number, inf-nonneg, finite-lt, finite-of-lt, mid, ord, ord-high, ord-inf, nonneg-ord, nonneg-mid, above-mid, le→ord, ord→le, lt→ord, lt→le, float-le-inf}
+use Rattle.rounding.specs.Kinds.{Finite, NonNegative}
+use Rattle.rounding.proofs.Value.{number, inf-nonneg, finite-lt, finite-of-lt, mid, ord, ord-high, ord-inf, nonneg-ord, nonneg-mid, above-mid, le→ord, ord→le, lt→ord, lt→le, float-le-inf}
 use Rattle.rounding.proofs.Rounding.{round-sign, rnd, rnd-mono, rnd-fix}
 use Rattle.rounding.proofs.Addition.{add-fin, add-inf, ord-add, add-number, add-mono, add-grows}
 use Rattle.rounding.proofs.Subtraction.{ord-sub, sub-number}

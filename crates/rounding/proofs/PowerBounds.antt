@@ -8,7 +8,8 @@ use lib.Pow.{pow-add, pow-mono}
 use lib.Ieee.{Float, Format, emax, neg, add, sub, mul, ofInt}
 use Rattle.rounding.specs.Integers.{isI64}
 use Rattle.rounding.proofs.Scaled.{scale, scaled, scale-pos, scale-scale-pos, scaled-neg}
-use Rattle.rounding.proofs.Value.{Number, Finite, finite-of-lt}
+use Rattle.rounding.specs.Kinds.{Number, Finite}
+use Rattle.rounding.proofs.Value.{finite-of-lt}
 use Rattle.rounding.proofs.Rounding.{roundScaled-mono, roundFraction-same}
 use Rattle.rounding.proofs.Negation.{neg-neg, sub-is, neg-finite}
 use Rattle.rounding.proofs.Subtraction.{sub-number, scaled-sub-le}

@@ -11,7 +11,8 @@ use lib.Dec.{T, ltb→lt, lt→ltb, lit<}
 use lib.Ieee.{Float, nan, inf, fin, Format, sub, ofInt}
 use Rattle.rounding.specs.Integers.{isI64, nearestWhole, roundAway}
 use Rattle.rounding.proofs.Scaled.{scale, scaled}
-use Rattle.rounding.proofs.Value.{Finite, ord}
+use Rattle.rounding.specs.Kinds.{Finite}
+use Rattle.rounding.proofs.Value.{ord}
 use Rattle.rounding.proofs.Rounding.{roundScaled, roundScaled-mono}
 use Rattle.rounding.proofs.Subtraction.{gap, scaled-sub}
 use Rattle.rounding.proofs.Integers.{leZ-refl, leZ-total, leZ-cases, leZ-ltZ-trans, ltZ-leZ-trans, ltZ→suc-leZ, ltZ→leZ-pred, isI64-suc, isI64-pred}

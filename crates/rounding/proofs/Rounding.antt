@@ -14,7 +14,8 @@ use lib.Ieee.Order.{round-mono}
 use lib.Ieee.Scale.{round-same, overflow}
 use Rattle.rounding.specs.Doubles.{negative}
 use Rattle.rounding.proofs.Scaled.{scale, scaled, scale-pos, overflow-pos, split, shift, fits-digits, scaled-shape, scaled-exact, scaled-lt, scaled-neg}
-use Rattle.rounding.proofs.Value.{Number, Finite, offset, mid, ord, ord-is, scaled-mid, le→ord}
+use Rattle.rounding.specs.Kinds.{Number, Finite}
+use Rattle.rounding.proofs.Value.{offset, mid, ord, ord-is, scaled-mid, le→ord}
 
 -- ---- the sign of a rounded value
 

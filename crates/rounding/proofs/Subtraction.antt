@@ -10,7 +10,8 @@ use lib.Ieee.{Float, Format, neg, sub, le}
 use lib.Ieee.Scale.{overflow}
 use Rattle.rounding.specs.Doubles.{negative}
 use Rattle.rounding.proofs.Scaled.{scaled, split}
-use Rattle.rounding.proofs.Value.{Number, Finite, number, offset, mid, ord, ord-is, ord-high, ord-low, scaled-mid, le→ord, ord→le}
+use Rattle.rounding.specs.Kinds.{Number, Finite}
+use Rattle.rounding.proofs.Value.{number, offset, mid, ord, ord-is, ord-high, ord-low, scaled-mid, le→ord, ord→le}
 use Rattle.rounding.proofs.Rounding.{roundScaled, roundScaled-mono, roundScaled-mid, rnd, rnd-up, rnd-down, rnd-mono}
 use Rattle.rounding.proofs.Negation.{sub-is, ord-neg, neg-finite}
 use Rattle.rounding.proofs.Addition.{ord-add, add-number}

@@ -6,7 +6,8 @@ use mathlib.Core.Bool.{Bool, true, false, not, cond}
 use lib.Dec.{eqb}
 use lib.Ieee.{Float, nan, inf, fin, Format, up, down, unlike, round, neg, add, sub, mul}
 use lib.Ieee.Scale.{overflow}
-use Rattle.rounding.proofs.Value.{Finite, number, mid, ord, ord-high, ord-low}
+use Rattle.rounding.specs.Kinds.{Finite}
+use Rattle.rounding.proofs.Value.{number, mid, ord, ord-high, ord-low}
 use Rattle.rounding.proofs.Rounding.{round-neg, rnd, rnd-odd}
 use Rattle.rounding.proofs.Negation.{ord-neg, neg-finite}
 use Rattle.rounding.proofs.Addition.{ord-add, add-number}

@@ -8,13 +8,14 @@ use mathlib.Core.Bool.{Bool, true, false}
 use lib.IntN.{ℤ}
 use lib.Signed.{leZ}
 use lib.Dec.{T}
-use lib.Ieee.{Float, nan, inf, fin, Format, unlike, mul, sub, ofInt, le, isNan}
-use lib.Ieee.Fits.{mul-fits}
+use lib.Ieee.{Float, nan, inf, fin, Format, unlike, mul, sub, ofInt, le, fits, isNan}
+use lib.Ieee.Fits.{sub-fits, mul-fits}
 use lib.Ieee.Scale.{overflow, finite}
 use Rattle.rounding.specs.Doubles.{negative}
 use Rattle.rounding.specs.Integers.{isI64, roundAway}
 use Rattle.rounding.proofs.Scaled.{scaled, overflow-pos, scaled-lt, scaled-le, scaled-zero}
-use Rattle.rounding.proofs.Value.{Number, Finite, NonNegative, Weight, weight-finite, inf-number, finite-lt, nonneg-ord, ord→le}
+use Rattle.rounding.specs.Kinds.{Number, Finite, NonNegative}
+use Rattle.rounding.proofs.Value.{Weight, weight-finite, inf-number, finite-lt, nonneg-ord, ord→le}
 use Rattle.rounding.proofs.Subtraction.{sub-number}
 use Rattle.rounding.proofs.Conversion.{ofInt-finite}
 use Rattle.rounding.proofs.Multiplication.{product, product-of, product-mono, product-zero, inf-mul, inf-mul-inf, weight-mul-inf}
@@ -41,6 +42,12 @@ like-signs true = refl
 plus-sign : (s : Bool) → unlike false s ≡ s
 plus-sign false = refl
 plus-sign true = refl
+
+mul-nan : (f : Format) (v : Float) → mul f v nan ≡ nan
+unfolding mul
+mul-nan f nan = refl
+mul-nan f (inf s) = refl
+mul-nan f (fin s m e) = refl
 
 module _ (f : Format) (w : Float) (p : Weight f w) where
   infinite : (d s : Float) → s ≡ inf false → (scaled f d ≡ overflow f) ⊎ (product f (scaled f w) (scaled f d) ≡ overflow f) → Term f w d s
@@ -72,6 +79,12 @@ module _ (f : Format) (w : Float) (p : Weight f w) where
   pub weightedSquare-nonneg : (d : Float) → Number f d → NonNegative f (weightedSquare f w d)
   weightedSquare-nonneg d n = let t = term-of d n in record { num = t .num; plus = t .sign }
 
+  -- a NaN passes no test, so any d will do where the weighted square passes one
+  tested-nonneg : (d r : Float) → T (fits f d) → T (le (weightedSquare f w d) r) → NonNegative f (weightedSquare f w d)
+  tested-nonneg nan r t h = absurd (unfold le in (rw (mul-nan f (mul f w nan)) at h))
+  tested-nonneg (inf s) r t h = weightedSquare-nonneg (inf s) (inf-number f s)
+  tested-nonneg (fin s k d) r t h = weightedSquare-nonneg (fin s k d) (record { fit = t; num = unfold isNan in tt })
+
   scaled-mono : (d d' : Float) → Number f d → Number f d' → scaled f d ≤ scaled f d' → scaled f (weightedSquare f w d) ≤ scaled f (weightedSquare f w d')
   scaled-mono d d' n n' h = go (term-of d n .size) (term-of d' n' .size)
     where
@@ -91,6 +104,10 @@ module _ (f : Format) (w : Float) (p : Weight f w) where
 
 abbrev pub term : Format → Float → Float → ℤ → Float
 term f w c z = weightedSquare f w (sub f c (ofInt f z))
+
+-- at any centre, an infinity or a NaN among them
+pub passed-term-nonneg : (f : Format) (w c : Float) → Weight f w → (z : ℤ) (r : Float) → T (le (term f w c z) r) → NonNegative f (term f w c z)
+passed-term-nonneg f w c p z r h = tested-nonneg f w p (sub f c (ofInt f z)) r (sub-fits f c (ofInt f z)) h
 
 module _ (f : Format) (w c : Float) (p : Weight f w) (q : Finite f c) where
   difference-number : (z : ℤ) → T (isI64 z) → Number f (sub f c (ofInt f z))

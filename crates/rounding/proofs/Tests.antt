@@ -12,7 +12,8 @@ use lib.Ieee.Fits.{and-i, and-l, and-r}
 use lib.Ieee.Scale.{finite}
 use Rattle.rounding.specs.Doubles.{negative, magnitude}
 use Rattle.rounding.proofs.Scaled.{scale, scaled, scaled-power}
-use Rattle.rounding.proofs.Value.{Number, Finite, NonNegative, Weight, number, zero-finite, mid, ord, ord-is, ord-zero, nonneg-ord, above-mid, mid-sign, le→ord, lt→ord, not-lt→le}
+use Rattle.rounding.specs.Kinds.{Number, Finite, NonNegative}
+use Rattle.rounding.proofs.Value.{Weight, number, zero-finite, mid, ord, ord-is, ord-zero, nonneg-ord, nonneg-mid, above-mid, mid-sign, le→ord, ord→le, lt→ord, not-lt→le, le→not-lt}
 use Rattle.rounding.proofs.PowerBounds.{Within}
 
 -- ---- `magnitude`
@@ -77,6 +78,12 @@ mid-of-le {f} p h = omega (arith, ord-zero f false (pos 0), le→ord f (number (
 
 pub mid-of-not-lt : {f : Format} {x : Float} → Number f x → T (not (lt x (fin false 0 (pos 0)))) → mid f ≤ ord f x
 mid-of-not-lt {f} p h = mid-of-le p (not-lt→le f p (number (zero-finite f)) h)
+
+pub not-lt-of-mid : {f : Format} {x : Float} → Number f x → mid f ≤ ord f x → T (not (lt x (fin false 0 (pos 0))))
+not-lt-of-mid {f} p h = le→not-lt f (number (zero-finite f)) p (ord→le f (number (zero-finite f)) p (le-trans (le-of-eq (ord-zero f false (pos 0))) h))
+
+pub nonneg-not-lt : {f : Format} {x : Float} → NonNegative f x → T (not (lt x (fin false 0 (pos 0))))
+nonneg-not-lt p = not-lt-of-mid (p .num) (nonneg-mid p)
 
 pub weight-of : (f : Format) (x : Float) → T (fits f x) → T (finite x) → T (lt (fin false 0 (pos 0)) x) → Weight f x
 weight-of f x t n h = record { fit = t; fin = n; plus = sign (mid-sign f x t (le-of-lt above)); some = some }

@@ -1,5 +1,5 @@
 -- A value that fits as one natural number, `ord`: its scaled magnitude above or below `mid`, which stands for both zeros. `lt`, `le` and `eq` of numbers are <, ≤ and = of their `ord`, so a law about the order of floats is a law of ℕ, and `le` is a total preorder.
--- `Number`, `Finite`, `NonNegative` and `Weight` are the kinds of values that the laws speak of. Assumes nothing.
+-- The laws speak of the kinds of values of specs/Kinds.antt, and of `Weight`. Assumes nothing.
 use mathlib.Core.Path.{_≡_, refl, sym, ap, _∙_}
 use mathlib.Core.Logic.{_⊎_, inl, inr}
 use Prim.Native.Nat.{ℕ, zero, suc, _+_, _-_, _*_, _≤_, _<_, zero-le}
@@ -12,24 +12,10 @@ use lib.Ieee.{Float, nan, inf, fin, Format, up, down, below, level, le, lt, eq, 
 use lib.Ieee.Fits.{down-pos, and-i, and-l, and-r, eq→eqb, inf-fits, nan-fits}
 use lib.Ieee.Scale.{overflow, finite}
 use Rattle.rounding.specs.Doubles.{negative}
+use Rattle.rounding.specs.Kinds.{Number, Finite, NonNegative}
 use Rattle.rounding.proofs.Scaled.{scale, scaled, scale-pos, overflow-pos, split, scaled-exact, scaled-lt, scaled-le, scaled-zero}
 
 -- ---- kinds of values
-
--- fits, and no NaN
-pub record Number (f : Format) (x : Float) : Type 0 where
-  pub fit : T (fits f x)
-  pub num : T (not (isNan x))
-
--- fits, and neither NaN nor an infinity
-pub record Finite (f : Format) (x : Float) : Type 0 where
-  pub fit : T (fits f x)
-  pub fin : T (finite x)
-
--- a number whose sign is plus: an infinity may be one, minus zero is not
-pub record NonNegative (f : Format) (x : Float) : Type 0 where
-  pub num : Number f x
-  pub plus : negative x ≡ false
 
 -- finite and above zero
 pub record Weight (f : Format) (x : Float) : Type 0 where
@@ -64,6 +50,9 @@ inf-nonneg f = record { num = inf-number f false; plus = refl }
 
 pub zero-finite : (f : Format) → Finite f (fin false 0 (pos 0))
 zero-finite f = record { fit = unfold fits in tt; fin = tt }
+
+pub zero-nonneg : (f : Format) → NonNegative f (fin false 0 (pos 0))
+zero-nonneg f = record { num = number (zero-finite f); plus = refl }
 
 -- finite is: below the first magnitude that overflows
 pub finite-lt : {f : Format} {x : Float} → Finite f x → scaled f x < overflow f
@@ -372,6 +361,9 @@ module _ (f : Format) where
 
   pub not-le→lt : {x y : Float} → Number f x → Number f y → T (not (le x y)) → T (lt y x)
   not-le→lt {x} {y} p q h = elim (float-total p q) [ inl k ↦ absurd (T-not (le x y) h k) | inr k ↦ k ]
+
+  pub le→not-lt : {x y : Float} → Number f x → Number f y → T (le x y) → T (not (lt y x))
+  le→not-lt {x} {y} p q h = not-T (lt y x) (λ (k : T (lt y x)). not-le-of-lt (lt→ord q p k) (le→ord p q h))
 
   pub lt→not-le : {x y : Float} → Number f x → Number f y → T (lt x y) → T (not (le y x))
   lt→not-le {x} {y} p q h = not-T (le y x) (λ (k : T (le y x)). not-le-of-lt (lt→ord p q h) (le→ord q p k))

@@ -1,8 +1,8 @@
--- A radius r, widened to r + (2^-52·max(r, 1))·k and rounded after each operation, is strictly above r, for a finite r that is not below zero and a whole k from 4 up. Assumes nothing.
+-- A radius r, widened to r + (2^-52·max(r, 1))·k and rounded after each operation, is strictly above r, for a finite r that is not below zero and a whole k from 4 up; for k = 0 it is r. Assumes nothing.
 use mathlib.Core.Path.{_≡_, refl, sym, ap, _∙_}
 use mathlib.Core.Logic.{_⊎_, inl, inr}
 use Prim.Native.Nat.{ℕ, zero, suc, _+_, _-_, _*_, _/_, _^_, _≤_, _<_}
-use native.Mathlib.Nat.{le-refl, le-trans, le-of-eq, lt-of-lt-of-le, lt-of-le-of-lt, lt-of-not-le, not-le-of-lt, one-mul, mul-one, mul-comm, mul-assoc, mul-left-comm, mul-right-comm, mul-le-mul, mul-le-mul-left, mul-le-mul-right, add-le-add, add-mul, sub-le, sub-add-cancel, div-mul-le-self, lt-div-mul-add, div-lt-iff-lt-mul}
+use native.Mathlib.Nat.{le-refl, le-trans, le-of-eq, le-of-lt, lt-of-lt-of-le, lt-of-le-of-lt, lt-of-not-le, not-le-of-lt, one-mul, mul-one, mul-comm, mul-assoc, mul-left-comm, mul-right-comm, mul-le-mul, mul-le-mul-left, mul-le-mul-right, add-le-add, add-mul, sub-le, sub-add-cancel, div-mul-le-self, lt-div-mul-add, div-lt-iff-lt-mul}
 use native.Mathlib.Numerals.{add-one}
 use native.Mathlib.Omega.{arith}
 use mathlib.Core.Bool.{Bool, true, false, not, _||_, cond, true≢false}
@@ -11,15 +11,17 @@ use lib.Dec.{T, T-not, lit<, lit≤}
 use lib.Pow.{pow-add, pow-pos, pow-lt, pow-mono}
 use lib.Ieee.{Float, nan, inf, fin, Format, binary32, binary64, prec, low, unlike, size, round, add, mul, lt, ofInt, fits, isNan}
 use lib.Ieee.Digits.{size-lt, size-reaches}
-use lib.Ieee.Fits.{add-fits}
-use lib.Ieee.Scale.{overflow}
+use lib.Ieee.Fits.{add-fits, mul-fits}
+use lib.Ieee.Scale.{finite, overflow}
 use Rattle.rounding.specs.Doubles.{negative, larger}
-use Rattle.rounding.proofs.Scaled.{scale, scaled, scale-pos, scale-scale-pos, one-digit, split, scaled-exact, scaled-power}
-use Rattle.rounding.proofs.Value.{Number, Finite, NonNegative, Weight, number, weight-finite, finite-lt, finite-of-lt, mid, ord, ord-is, ord-inf, nonneg-ord, above-mid, mid-sign, lt→ord, ord→lt}
+use Rattle.rounding.proofs.Scaled.{scale, scaled, scale-pos, scale-scale-pos, overflow-pos, scaled-zero, one-digit, split, scaled-exact, scaled-power}
+use Rattle.rounding.specs.Kinds.{Number, Finite, NonNegative}
+use Rattle.rounding.proofs.Value.{Weight, number, weight-finite, zero-finite, finite-lt, finite-of-lt, offset, mid, ord, ord-is, ord-inf, nonneg-ord, above-mid, mid-sign, lt→ord, ord→lt}
 use Rattle.rounding.proofs.Rounding.{roundScaled, roundFraction-mono, roundFraction-same, roundScaled-mono, roundScaled-exact, roundScaled-fix, rnd, rnd-up}
-use Rattle.rounding.proofs.Addition.{add-inf, ord-add, add-number}
+use Rattle.rounding.proofs.Addition.{add-inf, ord-add, add-number, add-grows}
 use Rattle.rounding.proofs.Conversion.{scaled-whole, ofInt-weight}
-use Rattle.rounding.proofs.Multiplication.{product, Product, product-of, product-mono}
+use Rattle.rounding.proofs.Multiplication.{product, Product, product-of, product-mono, product-zero}
+use Rattle.rounding.proofs.Tests.{mid-of-not-lt, not-lt-of-mid}
 
 -- ---- a sum that is strictly above its first part
 
@@ -216,6 +218,22 @@ larger-one f r p h = go (lt r one) (isNan r) (lt→ord f (number p) (number (one
         sign (inl e) k = e
         sign (inr e) k = absurd (omega (arith, scale-pos f))
 
+-- ---- nothing added
+plus-nothing : (f : Format) (r a : Float) → Finite f r → T (fits f a) → T (finite (add f r (mul f a (fin false 0 (pos 0))))) → ord f r ≤ ord f (add f r (mul f a (fin false 0 (pos 0))))
+plus-nothing f nan a p d h = absurd (p .fin)
+plus-nothing f (inf s) a p d h = absurd (p .fin)
+plus-nothing f (fin s m e) nan p d h = absurd (unfold mul in (unfold add in h))
+plus-nothing f (fin s m e) (inf t) p d h = absurd (unfold mul in (unfold add in h))
+plus-nothing f (fin s m e) (fin t n k) p d h =
+    let nothing = mul f (fin t n k) (fin false 0 (pos 0)) in
+    let r = product-of f (fin t n k) (fin false 0 (pos 0)) (record { fit = d; fin = tt }) (zero-finite f) in
+    let none : scaled f nothing ≡ 0 = r .size ∙ ap (product f (scaled f (fin t n k))) (scaled-zero f false (pos 0)) ∙ product-zero f (scaled f (fin t n k)) in
+    add-grows p (finite-of-lt (r .num) (lt-of-le-of-lt (le-of-eq none) (overflow-pos f))) (le-of-eq (sym (ord-is f nothing ∙ ap (offset (mid f) (negative nothing)) none ∙ centred (negative nothing))))
+  where
+    centred : (b : Bool) → offset (mid f) b 0 ≡ mid f
+    centred false = omega arith
+    centred true = omega arith
+
 -- ---- the law, for the widening by 4·n at dimension n
 
 -- r + (2^-52·max(r, 1))·4n
@@ -229,15 +247,27 @@ widening-fits n r = add-fits binary64 r _
 bounds : (n b : ℕ) → 0 < n → n ≤ 64 → 256 ≤ b → (4 ≤ 4 * n) × (4 * n ≤ b)
 bounds n b h k l = (omega arith, omega arith)
 
-module _ (n : ℕ) (r : Float) (h : 0 < n) (k : n ≤ 64) (p : Finite binary64 r) (l : mid binary64 ≤ ord binary64 r) where
-  four : (4 ≤ 4 * n) × (4 * n ≤ 2 ^ prec binary64)
-  four = bounds n (2 ^ prec binary64) h k (lit≤ tt)
+module _ (n : ℕ) (r : Float) (k : n ≤ 64) (p : Finite binary64 r) (plus : T (not (lt r (fin false 0 (pos 0))))) where
+  l : mid binary64 ≤ ord binary64 r
+  l = mid-of-not-lt (number p) plus
 
-  pub widening-above : ord binary64 r < ord binary64 (widened n r)
-  widening-above = widen binary64 r (larger r one) (4 * n) p (larger-one binary64 r p l) (four .0) (four .1) (lit< tt) l
+  module _ (h : 0 < n) where
+    four : (4 ≤ 4 * n) × (4 * n ≤ 2 ^ prec binary64)
+    four = bounds n (2 ^ prec binary64) h k (lit≤ tt)
 
-  pub widening-number : Number binary64 (widened n r)
-  widening-number = add-number p (part-nonneg binary64 r (larger r one) (4 * n) p (larger-one binary64 r p l) (four .0) (four .1) .num)
+    above : ord binary64 r < ord binary64 (widened n r)
+    above = widen binary64 r (larger r one) (4 * n) p (larger-one binary64 r p l) (four .0) (four .1) (lit< tt) l
 
-  pub widening-lt : T (lt r (widened n r))
-  widening-lt = ord→lt binary64 (number p) widening-number widening-above
+    widening-number : Number binary64 (widened n r)
+    widening-number = add-number p (part-nonneg binary64 r (larger r one) (4 * n) p (larger-one binary64 r p l) (four .0) (four .1) .num)
+
+    pub widening-lt : T (lt r (widened n r))
+    widening-lt = ord→lt binary64 (number p) widening-number above
+
+  -- not negative, for n = 0 too
+  pub widening-plus : Finite binary64 (widened n r) → T (not (lt (widened n r) (fin false 0 (pos 0))))
+  widening-plus wide = not-lt-of-mid (number wide) (le-trans l (go n above (wide .fin)))
+    where
+      go : (n : ℕ) → (0 < n → ord binary64 r < ord binary64 (widened n r)) → T (finite (widened n r)) → ord binary64 r ≤ ord binary64 (widened n r)
+      go zero a f = unfold ofInt in (plus-nothing binary64 r (mul binary64 eps (larger r one)) p (mul-fits binary64 eps (larger r one)) f)
+      go (suc n) a f = le-of-lt (a (omega arith))

@@ -2,3 +2,5 @@
 pub mod Integers
 pub mod Doubles
 pub mod Ordering
+pub mod Kinds
+pub mod Rounded

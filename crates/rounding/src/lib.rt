@@ -11,20 +11,20 @@ ghost use lib.Ieee.Scale.{finite};
 ghost use Rattle.rounding.specs.Integers.{roundAway, toDouble};
 ghost use Rattle.rounding.specs.Doubles as D;
 ghost use Rattle.rounding.specs.Ordering.{orderingOf};
+ghost use Rattle.rounding.specs.Rounded.{InRange, Rounds, IntegerAndDouble};
 
 // The nearest integer to an x above 0 and below 2^63, a half upward. The sum x + x is exact, so the halves that it
 // counts are those of x.
 fn rounded(x: f64) -> u64
-    requires { ⌜ T (lt (fin false 0 (pos 0)) x) ⌝ }
-    requires { ⌜ T (lt x (fin false 1 (pos 63))) ⌝ }
-    ensures { λ r. ⌜ (r < 2 ^ 63) × (pos r ≡ roundAway x) × (negℤ (pos r) ≡ roundAway (neg x)) ⌝ }
+    requires { ⌜ InRange x ⌝ }
+    ensures { λ r. ⌜ Rounds x r ⌝ }
 {
     let halves = std::num::truncating_f64_to_u64(x + x);
     halves / 2 + halves % 2
 }
 
-// The nearest integer, halves away from zero. From 2^63 up, plus infinity too, it is i64::MAX; from -2^63 down,
-// minus infinity too, i64::MIN; a NaN and either zero give 0.
+// The nearest integer; of two equally near ones that with the larger magnitude. What is too large for an i64, plus
+// infinity too, gives i64::MAX; what is too small, minus infinity too, i64::MIN; a NaN and either zero give 0.
 pub fn round_away(v: f64) -> i64
     ensures { λ r. ⌜ r ≡ roundAway v ⌝ }
 {
@@ -81,7 +81,7 @@ fn guessed(v: f64) -> i64
 // `round_away` of v, and `to_double` of that. A guess is taken that is nearer to v than a half; a half itself, and what
 // no guess meets, is worked out.
 pub fn rounded_away(v: f64) -> RoundedAway
-    ensures { λ r. ⌜ (r .integer ≡ roundAway v) × (r .double ≡ toDouble (roundAway v)) ⌝ }
+    ensures { λ r. ⌜ IntegerAndDouble v r ⌝ }
 {
     let near = guessed(v);
     let double = to_double(near);

@@ -5,12 +5,9 @@ use printing::double;
 use printing::integer;
 use printing::newline;
 use printing::truth;
+use printing::values::*;
 use printing::word;
 use rounding::Ordering;
-
-const LARGEST: f64 = 1.7976931348623157e308;
-
-const SMALLEST: f64 = 5e-324;
 
 fn round(v: f64) {
     integer(rounding::round_away(v));
@@ -45,8 +42,6 @@ fn compare(x: f64, y: f64) {
 }
 
 fn roundings() {
-    let infinity = 1.0 / 0.0;
-    let nan = 0.0 / 0.0;
     // cutting gives 0 at 0.5, floor(v + 0.5) gives 1 below it and 0 at -0.5, half to even gives 2 at 2.5
     word(b"round_away:");
     round(0.25);
@@ -90,13 +85,13 @@ fn roundings() {
     round(9223372036854775808.0);
     round(9223372036854777856.0);
     round(LARGEST);
-    round(infinity);
+    round(infinity());
     round(-9223372036854774784.0);
     round(-9223372036854775808.0);
     round(-9223372036854777856.0);
     round(-LARGEST);
-    round(-infinity);
-    round(nan);
+    round(-infinity());
+    round(nan());
     round(0.0);
     round(-0.0);
     round(SMALLEST);
@@ -145,8 +140,6 @@ fn conversions() {
 }
 
 fn finite_and_magnitude() {
-    let infinity = 1.0 / 0.0;
-    let nan = 0.0 / 0.0;
     word(b"is_finite:");
     finite(0.0);
     finite(-0.0);
@@ -156,9 +149,9 @@ fn finite_and_magnitude() {
     finite(-LARGEST);
     finite(SMALLEST);
     finite(-SMALLEST);
-    finite(infinity);
-    finite(-infinity);
-    finite(nan);
+    finite(infinity());
+    finite(-infinity());
+    finite(nan());
     word(b"\nmagnitude:");
     magnitude(0.0);
     magnitude(-0.0);
@@ -168,15 +161,13 @@ fn finite_and_magnitude() {
     magnitude(-LARGEST);
     magnitude(SMALLEST);
     magnitude(-SMALLEST);
-    magnitude(infinity);
-    magnitude(-infinity);
-    magnitude(nan);
+    magnitude(infinity());
+    magnitude(-infinity());
+    magnitude(nan());
     newline();
 }
 
 fn larger_ones() {
-    let infinity = 1.0 / 0.0;
-    let nan = 0.0 / 0.0;
     word(b"max:");
     larger(1.5, 2.5);
     larger(2.5, 1.5);
@@ -184,18 +175,16 @@ fn larger_ones() {
     larger(0.0, -0.0);
     larger(-0.0, 0.0);
     larger(SMALLEST, 0.0);
-    larger(LARGEST, infinity);
-    larger(-infinity, -LARGEST);
-    larger(nan, 1.5);
-    larger(1.5, nan);
-    larger(nan, -infinity);
-    larger(nan, nan);
+    larger(LARGEST, infinity());
+    larger(-infinity(), -LARGEST);
+    larger(nan(), 1.5);
+    larger(1.5, nan());
+    larger(nan(), -infinity());
+    larger(nan(), nan());
     newline();
 }
 
 fn precedences() {
-    let infinity = 1.0 / 0.0;
-    let nan = 0.0 / 0.0;
     word(b"precedes:");
     precedes(1.5, 2.5);
     precedes(2.5, 1.5);
@@ -207,21 +196,19 @@ fn precedences() {
     precedes(-0.0, -0.0);
     precedes(SMALLEST, 0.0);
     precedes(-SMALLEST, -0.0);
-    precedes(LARGEST, infinity);
-    precedes(-infinity, -LARGEST);
-    precedes(-infinity, infinity);
-    precedes(infinity, infinity);
-    precedes(nan, 1.5);
-    precedes(1.5, nan);
-    precedes(infinity, nan);
-    precedes(nan, -infinity);
-    precedes(nan, nan);
+    precedes(LARGEST, infinity());
+    precedes(-infinity(), -LARGEST);
+    precedes(-infinity(), infinity());
+    precedes(infinity(), infinity());
+    precedes(nan(), 1.5);
+    precedes(1.5, nan());
+    precedes(infinity(), nan());
+    precedes(nan(), -infinity());
+    precedes(nan(), nan());
     newline();
 }
 
 fn comparisons() {
-    let infinity = 1.0 / 0.0;
-    let nan = 0.0 / 0.0;
     word(b"total_cmp:");
     compare(1.5, 2.5);
     compare(2.5, 1.5);
@@ -233,15 +220,15 @@ fn comparisons() {
     compare(-0.0, -0.0);
     compare(SMALLEST, 0.0);
     compare(-SMALLEST, -0.0);
-    compare(LARGEST, infinity);
-    compare(-infinity, -LARGEST);
-    compare(-infinity, infinity);
-    compare(infinity, infinity);
-    compare(nan, 1.5);
-    compare(1.5, nan);
-    compare(infinity, nan);
-    compare(nan, -infinity);
-    compare(nan, nan);
+    compare(LARGEST, infinity());
+    compare(-infinity(), -LARGEST);
+    compare(-infinity(), infinity());
+    compare(infinity(), infinity());
+    compare(nan(), 1.5);
+    compare(1.5, nan());
+    compare(infinity(), nan());
+    compare(nan(), -infinity());
+    compare(nan(), nan());
     newline();
 }
 

@@ -1,8 +1,8 @@
 -- The one walk is that of `nearest`, with its best, and that of `list`, with the points that had a place. Assumes nothing.
-use mathlib.Core.Path.{_≡_, refl, ap, sym, _∙_}
+use mathlib.Core.Path.{_≡_, refl, ap, sym, _∙_, subst}
 use mathlib.Core.Bool.{Bool, true, false, cond}
 use mathlib.Core.List.{List, [], _∷_, _++_, reverse, reverse-cons}
-use Prim.Native.Nat.{ℕ, suc, _*_, _^_, _≤_, min}
+use Prim.Native.Nat.{ℕ, suc, _*_, _≤_, min}
 use native.Mathlib.Nat.{zero-min}
 use native.Mathlib.Omega.{arith}
 use borrow.Author.Tests.{ltb-true, ltb-false}
@@ -11,19 +11,23 @@ use lib.IntN.{ℤ}
 use lib.ListN.{length, take, length-append, length-reverse}
 use lib.Seq.{take-nil, take-all, take-append-le}
 use lib.Ieee.{Float, binary64, ofBits}
-use Rattle.rounding.proofs.Constants.{zero-is}
-use Rattle.definitions.specs.Table.{Table, table, dimension, plusZero}
+use Rattle.rounding.proofs.Interface.{zero-is}
+use Rattle.definitions.specs.Table.{Table, dimension, plusZero, largestDimension, largestList, largestBudget}
+use Rattle.definitions.specs.Shapes.{Shaped}
 use Rattle.definitions.specs.Distance.{center}
 use Rattle.definitions.specs.Walk.{Walked, ended, walk}
 use Rattle.definitions.specs.Nearest.{Best, best, no-best, replaces, consider, nearestWalk}
 use Rattle.definitions.specs.Listing.{ListPoint, collect, listWalk}
-use Rattle.distance.proofs.Places.{places-none}
+use Rattle.lists.specs.Places.{places}
+use Rattle.lists.proofs.Places.{places-none}
 use Rattle.distance.proofs.Totals.{residuals-start}
 use Rattle.search.specs.Kept.{Kept, leaf}
-use Rattle.sorting.specs.Rows.{rows}
-use Rattle.search.specs.View.{Search, carried, fresh, walkFrom, Ready}
-use Rattle.search.proofs.Leaves.{considers-is}
-use Rattle.search.proofs.Rows.{stores-is, rows-zero}
+use Rattle.definitions.specs.Rows.{rows}
+use Rattle.search.specs.declared.RecursiveSearch.{RecursiveSearch}
+use Rattle.search.specs.View.{Search, carried, newSearch, seen}
+use Rattle.search.specs.Call.{state, Call, walkOf, Ready}
+use Rattle.search.proofs.NearestLeaf.{considers-is}
+use Rattle.search.proofs.ListLeaf.{stores-is, rows-zero}
 use Rattle.search.proofs.Map.{mapped, walk-map}
 
 -- what is kept before the first leaf
@@ -92,49 +96,58 @@ list-instance t target R b room =
     ∙ walk-map (listOnly room) collect (leaf true room) (center t target) t b (collects room) (dimension t) [] plusZero (ended [] R 0)
     ∙ ap (mapped (listOnly room)) (sym (list-is t target R b))
 
--- ---- a call's walk, from the search that `begun` gives
-abbrev pub begin : Bool → Float → Search
-begin listing R = carried listing (fresh R) 0 false
+-- ---- a call's walk, from a struct that `RecursiveSearch::new` gives; the residuals have no part in what it comes to
+abbrev pub startCall : Bool → Table → List Float → ℕ → RecursiveSearch → List Float → List Float → List ℤ → Call
+startCall listing t target b s rest distances points = record {
+  listing = listing;
+  table = t;
+  target = target;
+  budget = b;
+  depth = dimension t;
+  partial = ofBits binary64 0;
+  from = state (carried listing s 0 false) rest distances points;
+}
 
--- which is the same for both
-abbrev bare : Float → Search
-bare R = record { point = fresh R .point; best = fresh R .best; radius = R; nodes = 0; found = false; exhausted = false; listed = 0 }
+-- what it carries is the same for both calls
+abbrev emptySearch : Float → Search
+emptySearch R = record { point = newSearch R .point; best = newSearch R .best; radius = R; nodes = 0; found = false; exhausted = false; listed = 0 }
 
-begin-is : (listing : Bool) (R : Float) → begin listing R ≡ bare R
-begin-is true R = refl
-begin-is false R = refl
+carried-is : (listing : Bool) (R : Float) → carried listing (newSearch R) 0 false ≡ emptySearch R
+carried-is true R = refl
+carried-is false R = refl
 
-module _ (t : Table) (target : List Float) (b : ℕ) (R : Float) (distances : List Float) (points : List ℤ) (small : dimension t ≤ 23) where
-  starts : (listing : Bool) → walkFrom listing t target b (dimension t) (ofBits binary64 0) (begin listing R) distances points ≡ walk (leaf listing (length distances)) (center t target) t b (dimension t) [] plusZero (ended nothing R 0)
-  starts listing =
-      ap (λ (s : Search). walkFrom listing t target b (dimension t) (ofBits binary64 0) s distances points) (begin-is listing R)
-      ∙ ap (λ (x : Float). walkFrom listing t target b (dimension t) x (bare R) distances points) zero-is
-      ∙ ap (λ (zs : List ℤ). whole zs (rows (dimension t) (min 0 (length distances)) distances points)) (places-none (dimension t) (fresh R .point) (omega arith) (dimension t) (omega arith))
+module _ (listing : Bool) (t : Table) (target : List Float) (b : ℕ) (R : Float) (s : RecursiveSearch) (new : s ≡ newSearch R) (distances : List Float) (points : List ℤ) (shape : Shaped largestDimension (t .weights) (t .mu) target) where
+  search-is : carried listing s 0 false ≡ emptySearch R
+  search-is = ap (λ (x : RecursiveSearch). carried listing x 0 false) new ∙ carried-is listing R
+
+  pub walk-from-start : walkOf (startCall listing t target b s [] distances points) ≡ walk (leaf listing (length distances)) (center t target) t b (dimension t) [] plusZero (ended nothing R 0)
+  walk-from-start =
+      ap (λ (x : Search). begins x (ofBits binary64 0)) search-is
+      ∙ ap (begins (emptySearch R)) zero-is
+      ∙ ap (λ (zs : List ℤ). whole zs (rows (dimension t) (min 0 (length distances)) distances points)) (places-none (dimension t) (newSearch R .point) (omega (arith, shape .small)) (dimension t) (omega arith))
       ∙ ap (λ (k : ℕ). whole [] (rows (dimension t) k distances points)) (zero-min (length distances))
       ∙ ap (whole []) (rows-zero (dimension t) distances points)
     where
+      begins : Search → Float → Walked Kept
+      begins x p = walk (leaf listing (length distances)) (center t target) t b (dimension t) (places (dimension t) (dimension t) (x .point)) p (seen (dimension t) x distances points)
+
       whole : List ℤ → List ListPoint → Walked Kept
       whole zs l = walk (leaf listing (length distances)) (center t target) t b (dimension t) zs plusZero (ended (record { best = no-best; count = 0; stored = l }) R 0)
 
-  pub nearest-from-start : walkFrom false t target b (dimension t) (ofBits binary64 0) (begin false R) distances points ≡ mapped bestOnly (nearestWalk t target R b)
-  nearest-from-start = starts false ∙ nearest-instance t target R b (length distances)
-
-  pub list-from-start : walkFrom true t target b (dimension t) (ofBits binary64 0) (begin true R) distances points ≡ mapped (listOnly (length distances)) (listWalk t target R b)
-  list-from-start = starts true ∙ list-instance t target R b (length distances)
-
--- what a call has to show for it
-pub ready-at-start : (listing : Bool) (weights mu target rest distances : List Float) (points : List ℤ) (b : ℕ) (R : Float) → length weights ≤ 23 → length mu ≡ length weights * length weights → length target ≡ length weights → b ≤ 2 ^ 60 → length rest ≡ 23 → length distances ≤ 4096 → length points ≡ length distances * length weights → Ready weights mu target rest distances points b (length weights) (begin listing R)
-ready-at-start listing weights mu target rest distances points b R small square aimed bounded sized few shaped = record {
-  small = small;
-  square = square;
-  aimed = aimed;
-  within = omega arith;
-  bounded = bounded;
-  counted = omega arith;
-  live = refl;
-  listed = omega (arith, ap (λ (s : Search). s .listed) (begin-is listing R));
-  sized = sized;
-  beside = residuals-start (table weights mu) target (fresh R .point) (omega arith) rest (omega arith);
-  few = few;
-  shaped = shaped;
-}
+  -- what a call has to show for it
+  pub ready-at-start : (rest : List Float) → b ≤ largestBudget → length rest ≡ largestDimension → length distances ≤ largestList → length points ≡ length distances * dimension t → Ready (startCall listing t target b s rest distances points)
+  ready-at-start rest bounded rest-length few points-length = subst (λ (x : Search). Ready (begins x)) (sym search-is) (record {
+    shape = shape;
+    within = omega arith;
+    bounded = bounded;
+    counted = omega arith;
+    not-exhausted = refl;
+    listed = omega arith;
+    rest-length = rest-length;
+    rest-above = residuals-start t target (newSearch R .point) (omega (arith, shape .small)) rest (omega (arith, shape .small));
+    few = few;
+    points-length = points-length;
+  })
+    where
+      begins : Search → Call
+      begins x = record { listing = listing; table = t; target = target; budget = b; depth = dimension t; partial = ofBits binary64 0; from = state x rest distances points }

@@ -4,16 +4,15 @@ use mathlib.Core.Bool.{Bool, true, false, cond}
 use mathlib.Core.List.{List, reverse}
 use Prim.Native.Nat.{ℕ, min}
 use native.Mathlib.Omega.{arith}
-use lib.IntN.{ℤ}
 use lib.ListN.{length, take}
 use lib.Ieee.{Float}
 use Rattle.definitions.specs.Walk.{Walked, ended, exhausted}
 use Rattle.definitions.specs.Nearest.{Best, best, no-best}
 use Rattle.definitions.specs.Listing.{ListPoint}
 use Rattle.search.specs.Kept.{Kept}
-use Rattle.sorting.specs.Rows.{rows}
-use Rattle.search.specs.View.{Search, kept, seen}
-use Rattle.search.proofs.Leaves.{shown-held, shown-exhausted}
+use Rattle.definitions.specs.Rows.{rows}
+use Rattle.search.specs.Call.{State}
+use Rattle.search.proofs.States.{view, keeps, view-ended, view-exhausted}
 use Rattle.search.proofs.Map.{mapped}
 use Rattle.search.proofs.Instances.{bestOnly, listOnly}
 
@@ -33,42 +32,41 @@ module _ {K : Type 0} (f : K → Kept) where
       ap (λ (x : ℕ). exhausted x S) (sym b) ∙ ap (λ (x : Float). exhausted m x) (sym a)
   exhausted-of (ended j S l) m R e = let z : _≡_ {A = ℕ} 0 1 = cc in absurd (omega (arith, z))
 
-  module _ (n : ℕ) (s : Search) (distances : List Float) (points : List ℤ) (w : Walked K) (e : seen n s distances points ≡ mapped f w) where
+  module _ (n : ℕ) (x : State) (w : Walked K) (e : view n x ≡ mapped f w) where
     -- refusal 15
-    pub is-exhausted : s .exhausted ≡ true → w ≡ exhausted (s .nodes) (s .radius)
-    is-exhausted x = exhausted-of w (s .nodes) (s .radius) (sym (shown-exhausted s (kept n s distances points) x) ∙ e)
+    pub is-exhausted : x .search .exhausted ≡ true → w ≡ exhausted (x .search .nodes) (x .search .radius)
+    is-exhausted b = exhausted-of w (x .search .nodes) (x .search .radius) (sym (view-exhausted n x b) ∙ e)
 
-    is-ended : s .exhausted ≡ false → (j : K) × (w ≡ ended j (s .radius) (s .nodes)) × (kept n s distances points ≡ f j)
-    is-ended x = ended-of w (kept n s distances points) (s .radius) (s .nodes) (sym (shown-held s (kept n s distances points) x) ∙ e)
+    is-ended : x .search .exhausted ≡ false → (j : K) × (w ≡ ended j (x .search .radius) (x .search .nodes)) × (keeps n x ≡ f j)
+    is-ended b = ended-of w (keeps n x) (x .search .radius) (x .search .nodes) (sym (view-ended n x b) ∙ e)
 
 -- ---- nearest
-module _ (n : ℕ) (s : Search) (distances : List Float) (points : List ℤ) (w : Walked Best) (e : seen n s distances points ≡ mapped bestOnly w) (live : s .exhausted ≡ false) where
-  best-is : (b : Bool) → s .found ≡ b → w ≡ ended (cond b (best (take n (s .best))) no-best) (s .radius) (s .nodes)
-  best-is b x =
-      let r = is-ended bestOnly n s distances points w e live in
-      r .1 ∙ ap (λ (k : Best). ended k (s .radius) (s .nodes)) (sym (ap (λ (k : Kept). k .best) (r .2)) ∙ ap (λ (b : Bool). cond b (best (take n (s .best))) no-best) x)
+module _ (n : ℕ) (x : State) (w : Walked Best) (e : view n x ≡ mapped bestOnly w) (not-exhausted : x .search .exhausted ≡ false) where
+  best-is : (b : Bool) → x .search .found ≡ b → w ≡ ended (cond b (best (take n (x .search .best))) no-best) (x .search .radius) (x .search .nodes)
+  best-is b h =
+      let r = is-ended bestOnly n x w e not-exhausted in
+      r .1 ∙ ap (λ (k : Best). ended k (x .search .radius) (x .search .nodes)) (sym (ap (λ (k : Kept). k .best) (r .2)) ∙ ap (λ (b : Bool). cond b (best (take n (x .search .best))) no-best) h)
 
-  pub is-found : s .found ≡ true → w ≡ ended (best (take n (s .best))) (s .radius) (s .nodes)
-  is-found x = best-is true x
+  pub is-found : x .search .found ≡ true → w ≡ ended (best (take n (x .search .best))) (x .search .radius) (x .search .nodes)
+  is-found h = best-is true h
 
-  pub is-outside : s .found ≡ false → w ≡ ended no-best (s .radius) (s .nodes)
-  is-outside x = best-is false x
+  pub is-outside : x .search .found ≡ false → w ≡ ended no-best (x .search .radius) (x .search .nodes)
+  is-outside h = best-is false h
 
 -- ---- list
 -- the points found, the last first, and where they are stored
-pub record Found (n : ℕ) (s : Search) (distances : List Float) (points : List ℤ) (w : Walked (List ListPoint)) : Type 0 where
+pub record Found (n : ℕ) (x : State) (w : Walked (List ListPoint)) : Type 0 where
   pub all : List ListPoint
-  pub is : w ≡ ended all (s .radius) (s .nodes)
-  pub count : length all ≡ s .listed
-  pub stored : take (length distances) (reverse all) ≡ rows n (min (s .listed) (length distances)) distances points
+  pub is : w ≡ ended all (x .search .radius) (x .search .nodes)
+  pub count : length all ≡ x .search .listed
+  pub stored : take (length (x .distances)) (reverse all) ≡ rows n (min (x .search .listed) (length (x .distances))) (x .distances) (x .points)
 
-module _ (n : ℕ) (s : Search) (distances : List Float) (points : List ℤ) (w : Walked (List ListPoint)) where
-  pub is-listed : seen n s distances points ≡ mapped (listOnly (length distances)) w → s .exhausted ≡ false → Found n s distances points w
-  is-listed e live =
-      let r = is-ended (listOnly (length distances)) n s distances points w e live in
-      record {
-        all = r .0;
-        is = r .1;
-        count = sym (ap (λ (k : Kept). k .count) (r .2));
-        stored = sym (ap (λ (k : Kept). k .stored) (r .2));
-      }
+pub is-listed : (n : ℕ) (x : State) (w : Walked (List ListPoint)) → view n x ≡ mapped (listOnly (length (x .distances))) w → x .search .exhausted ≡ false → Found n x w
+is-listed n x w e not-exhausted =
+    let r = is-ended (listOnly (length (x .distances))) n x w e not-exhausted in
+    record {
+      all = r .0;
+      is = r .1;
+      count = sym (ap (λ (k : Kept). k .count) (r .2));
+      stored = sym (ap (λ (k : Kept). k .stored) (r .2));
+    }

@@ -26,10 +26,10 @@ module _ {K : Type 0} (leaf : Leaf K) (centerOf : ℕ → List ℤ → Float) (t
     visited : (f : ℕ) (s : Bool) → leb b m ≡ s → tryChildren leaf centerOf t b down l zs p c (suc f) (child z g) (ended k R m) ≡ rest f (visit leaf centerOf t b s down (z ∷ zs) sum k R m)
     visited f s e = children-child leaf centerOf t b down l zs p c f z g k R m ∙ ap (λ (s : Bool). rest f (visit leaf centerOf t b s down (z ∷ zs) sum k R m)) e
 
-    -- the budget is spent
-    pub spent : (f : ℕ) → 0 < f → b ≤ m → tryChildren leaf centerOf t b down l zs p c f (child z g) (ended k R m) ≡ exhausted m R
-    spent zero h e = absurd (lt-irrefl 0 h)
-    spent (suc f) h e =
+    -- the budget is turn-exhausted
+    pub turn-exhausted : (f : ℕ) → 0 < f → b ≤ m → tryChildren leaf centerOf t b down l zs p c f (child z g) (ended k R m) ≡ exhausted m R
+    turn-exhausted zero h e = absurd (lt-irrefl 0 h)
+    turn-exhausted (suc f) h e =
         visited f true (le-leb b m e)
         ∙ ap (rest f) (visit-exhausted leaf centerOf t b down (z ∷ zs) sum k R m)
         ∙ children-exhausted leaf centerOf t b down l zs p c f (next g) m R
@@ -49,17 +49,17 @@ module _ {K : Type 0} (leaf : Leaf K) (centerOf : ℕ → List ℤ → Float) (t
           ap (λ (a : ℕ). rest a (w (suc m))) i ∙ ap (λ (a : ℕ). rest (suc f - 1) (w a)) j
 
       -- the sum is above the standing radius
-      pub passed : (f : ℕ) → 0 < f → le sum R ≡ false → tryChildren leaf centerOf t b down l zs p c f (child z g) (ended k R m) ≡ rest (f - 1) (ended k R (m + 1))
-      passed zero h q = absurd (lt-irrefl 0 h)
-      passed (suc f) h q =
+      pub turn-pruned : (f : ℕ) → 0 < f → le sum R ≡ false → tryChildren leaf centerOf t b down l zs p c f (child z g) (ended k R m) ≡ rest (f - 1) (ended k R (m + 1))
+      turn-pruned zero h q = absurd (lt-irrefl 0 h)
+      turn-pruned (suc f) h q =
           descended f false q
           ∙ ap (rest f) (prunes leaf centerOf t b down (z ∷ zs) sum (ended k R (suc m)))
           ∙ numbered f (λ a. ended k R a)
 
       -- the walk goes down
-      pub entered : (f : ℕ) → 0 < f → le sum R ≡ true → tryChildren leaf centerOf t b down l zs p c f (child z g) (ended k R m) ≡ rest (f - 1) (down (z ∷ zs) sum (ended k R (m + 1)))
-      entered zero h q = absurd (lt-irrefl 0 h)
-      entered (suc f) h q =
+      pub turn-descends : (f : ℕ) → 0 < f → le sum R ≡ true → tryChildren leaf centerOf t b down l zs p c f (child z g) (ended k R m) ≡ rest (f - 1) (down (z ∷ zs) sum (ended k R (m + 1)))
+      turn-descends zero h q = absurd (lt-irrefl 0 h)
+      turn-descends (suc f) h q =
           descended f true q
           ∙ ap (rest f) (descends leaf centerOf t b down (z ∷ zs) sum (ended k R (suc m)))
           ∙ numbered f (λ a. down (z ∷ zs) sum (ended k R a))

@@ -1,3 +1,4 @@
 -- What the contracts cite.
 pub mod Kept
 pub mod View
+pub mod Call

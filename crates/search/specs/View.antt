@@ -1,18 +1,17 @@
--- What the code's values stand for, and what the walk asks and promises of them. Definitions only.
+-- What the code's values stand for, and what the leaves leave of them. Definitions only.
 use mathlib.Core.Path.{_≡_}
 use mathlib.Core.Bool.{Bool, true, false, cond}
 use mathlib.Core.List.{List}
-use Prim.Native.Nat.{ℕ, _+_, _*_, _^_, _≤_, min}
+use Prim.Native.Nat.{ℕ, _+_, _*_, _≤_, _<_, min}
 use lib.Dec.{ltb}
 use lib.ListN.{length, take, replicate}
 use lib.IntN.{ℤ, pos}
 use lib.Ieee.{Float}
-use Rattle.definitions.specs.Table.{Table, dimension}
-use Rattle.definitions.specs.Distance.{center}
-use Rattle.definitions.specs.Walk.{Walked, ended, exhausted, walk}
+use Rattle.definitions.specs.Table.{largestDimension, largestBudget}
+use Rattle.definitions.specs.Shapes.{Shaped}
+use Rattle.definitions.specs.Walk.{Walked, ended, exhausted}
 use Rattle.definitions.specs.Nearest.{Best, best, no-best}
-use Rattle.sorting.specs.Rows.{rows}
-use Rattle.distance.specs.Residuals.{places, residuals}
+use Rattle.definitions.specs.Rows.{rows}
 use Rattle.search.specs.Kept.{Kept, leaf}
 use Rattle.search.specs.declared.RecursiveSearch.{RecursiveSearch}
 
@@ -40,8 +39,8 @@ carried listing s found spent = record {
 }
 
 -- the start of a walk
-abbrev pub fresh : Float → RecursiveSearch
-fresh radius = record { point = replicate 23 (pos 0); best = replicate 23 (pos 0); radius = radius; nodes = 0 }
+abbrev pub newSearch : Float → RecursiveSearch
+newSearch radius = record { point = replicate largestDimension (pos 0); best = replicate largestDimension (pos 0); radius = radius; nodes = 0 }
 
 -- a struct with the point under trial as its best
 abbrev pub withBest : RecursiveSearch → Float → RecursiveSearch
@@ -65,6 +64,18 @@ pub record Considered (n : ℕ) (s : RecursiveSearch) (d : Float) (found : ℕ) 
   pub point : s′ .point ≡ s .point
   pub nodes : s′ .nodes ≡ s .nodes
 
+-- The best and the point under trial have n coordinates.
+pub record BeforeReady (n : ℕ) (point best : List ℤ) : Type 0 where
+  pub small : n ≤ largestDimension
+  pub point-length : length point ≡ largestDimension
+  pub best-length : length best ≡ largestDimension
+
+-- What the leaf of `list` asks for: a point of n coordinates, and n coordinates for each place.
+pub record PushReady (n : ℕ) (point : List ℤ) (found : ℕ) (distances : List Float) (points : List ℤ) : Type 0 where
+  pub point-fits : n ≤ length point
+  pub bounded : found ≤ largestBudget
+  pub points-length : length points ≡ length distances * n
+
 -- What the leaf of `list` leaves of the places and the number found, for any struct with that point under trial.
 pub record Pushed (n : ℕ) (point : List ℤ) (d : Float) (found found′ : ℕ) (distances distances′ : List Float) (points points′ : List ℤ) : Type 0 where
   pub seen-as : (s : RecursiveSearch) → s .point ≡ point → seen n (carried true s found′ false) distances′ points′ ≡ leaf true (length distances) (take n (s .point)) d (kept n (carried true s found false) distances points) (s .radius) (s .nodes)
@@ -72,34 +83,9 @@ pub record Pushed (n : ℕ) (point : List ℤ) (d : Float) (found found′ : ℕ
   pub distances-length : length distances′ ≡ length distances
   pub points-length : length points′ ≡ length points
 
--- ---- the walk
--- The walk from where a search stands, with `depth` levels left: the coordinates above them are those of the point under trial.
-abbrev pub walkFrom : Bool → Table → List Float → ℕ → ℕ → Float → Search → List Float → List ℤ → Walked Kept
-walkFrom listing t target budget depth partial s distances points =
-    walk (leaf listing (length distances)) (center t target) t budget depth (places (dimension t) depth (s .point)) partial (seen (dimension t) s distances points)
-
--- What it asks for: a table, a target, a budget in their ranges, a search that goes on, the residuals of the coordinates above, and places for the list.
-pub record Ready (weights mu target rest distances : List Float) (points : List ℤ) (budget depth : ℕ) (s : Search) : Type 0 where
-  pub small : length weights ≤ 23
-  pub square : length mu ≡ length weights * length weights
-  pub aimed : length target ≡ length weights
-  pub within : depth ≤ length weights
-  pub bounded : budget ≤ 2 ^ 60
-  pub counted : s .nodes ≤ budget
-  pub live : s .exhausted ≡ false
-  pub listed : s .listed ≤ s .nodes
-  pub sized : length rest ≡ 23
-  pub beside : places (length weights) depth rest ≡ residuals target depth (places (length weights) depth (s .point))
-  pub few : length distances ≤ 4096
-  pub shaped : length points ≡ length distances * length weights
-
--- What it leaves: s the search, and with ′ what it gives back. Coordinates and residuals above the depth stay. Each point found costs a node, but the first.
-pub record Returned (n budget depth : ℕ) (s s′ : Search) (rest rest′ distances distances′ : List Float) (points points′ : List ℤ) : Type 0 where
-  pub above : places n depth (s′ .point) ≡ places n depth (s .point)
-  pub more : s .nodes ≤ s′ .nodes
-  pub counted : s′ .nodes ≤ budget
-  pub listed : s′ .listed + s .nodes ≤ s′ .nodes + s .listed + 1
-  pub sized : length rest′ ≡ 23
-  pub residuals : places n depth rest′ ≡ places n depth rest
-  pub distances-length : length distances′ ≡ length distances
-  pub points-length : length points′ ≡ length points
+-- ---- a level
+-- What its generator asks for: a level of the table, and an array for the residuals above it.
+pub record EnterReady (weights mu target rest : List Float) (level : ℕ) : Type 0 where
+  pub shape : Shaped largestDimension weights mu target
+  pub rest-length : length rest ≡ largestDimension
+  pub below : level < length weights

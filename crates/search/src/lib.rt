@@ -1,36 +1,53 @@
 // The recursive walk of nearest and of list. They differ in what a leaf does, which a flag chooses.
 ghost use mathlib.Core.Path.{_≡_};
-ghost use Prim.Native.Nat.{_*_, _≤_, _<_, _^_, _+_};
-ghost use lib.ListN.{length, take, getD};
-ghost use lib.Seq.{paste};
-ghost use lib.Ieee.{nan};
-ghost use Rattle.definitions.specs.Table.{table, coordinate};
+ghost use Prim.Native.Nat.{_≤_, _+_};
+ghost use lib.ListN.{take};
+ghost use Rattle.definitions.specs.Table.{weight, largestDimension};
+ghost use Rattle.definitions.specs.Lent.{atEntry, atExit, tableAt};
 ghost use Rattle.definitions.specs.Nearest.{lexicographic};
-ghost use Rattle.definitions.specs.Seeds.{alongFrom};
 ghost use Rattle.definitions.specs.Zigzag as Z;
-ghost use Rattle.distance.specs.Residuals.{places};
 ghost use Rattle.children.specs.View.{levelOf};
-ghost use Rattle.search.specs.View.{carried, seen, withBest, fresh, walkFrom, Considered, Pushed, Ready, Returned};
+ghost use Rattle.distance.specs.Residuals.{centerSum};
+ghost use Rattle.search.specs.View.{withBest, newSearch, BeforeReady, Considered, PushReady, Pushed, EnterReady};
+ghost use Rattle.search.specs.Call.{callOf, callAt, exitState, Ready, Returned};
 use children::Child;
 use children::Children;
 use children::Level;
+use definitions::LARGEST_DIMENSION;
 use distance::center;
+use lists::copy_i64;
 
 // The point under trial, the best so far, the standing radius and the number of nodes. Each call of the walk copies it, so
 // nothing more belongs in it.
 pub struct RecursiveSearch {
-    pub point: [i64; 23],
-    pub best: [i64; 23],
+    pub point: [i64; LARGEST_DIMENSION],
+    pub best: [i64; LARGEST_DIMENSION],
     pub radius: f64,
     pub nodes: u64,
 }
 
+impl RecursiveSearch {
+    // The start of a walk: no node, no best and no point found, and the radius standing.
+    pub fn new(radius: f64) -> RecursiveSearch
+        ensures { λ r. ⌜ r ≡ newSearch radius ⌝ }
+    {
+        RecursiveSearch {
+            point: [0; LARGEST_DIMENSION],
+            best: [0; LARGEST_DIMENSION],
+            radius,
+            nodes: 0,
+        }
+    }
+}
+
 // Whether the point under trial is lexicographically smaller than the best, coordinate 0 first.
-fn before<'a>(point: &'a [i64; 23], best: &'a [i64; 23], n: usize) -> bool
-    requires { ⌜ n ≤ 23 ⌝ }
-    requires { ⌜ length (now point) ≡ 23 ⌝ }
-    requires { ⌜ length (now best) ≡ 23 ⌝ }
-    ensures { λ r. ⌜ r ≡ lexicographic (take n (now (point .entry))) (take n (now (best .entry))) ⌝ }
+fn before<'a>(
+    point: &'a [i64; LARGEST_DIMENSION],
+    best: &'a [i64; LARGEST_DIMENSION],
+    n: usize,
+) -> bool
+    requires { ⌜ BeforeReady n (now point) (now best) ⌝ }
+    ensures { λ r. ⌜ r ≡ lexicographic (take n (atEntry point)) (take n (atEntry best)) ⌝ }
 {
     let mut i = 0;
     while i < n {
@@ -48,7 +65,7 @@ fn before<'a>(point: &'a [i64; 23], best: &'a [i64; 23], n: usize) -> bool
 }
 
 // The search with the point under trial as its best, at that distance.
-fn taken(s: RecursiveSearch, distance: f64) -> RecursiveSearch
+fn with_best(s: RecursiveSearch, distance: f64) -> RecursiveSearch
     ensures { λ r. ⌜ r ≡ withBest s distance ⌝ }
 {
     let point = s.point;
@@ -59,56 +76,38 @@ fn taken(s: RecursiveSearch, distance: f64) -> RecursiveSearch
     }
 }
 
-// The leaf of nearest: the point under trial becomes the best if there is none, if its distance is smaller, or if that
-// is equal and the point lexicographically smaller. `found` is 0 as long as there is none, and 1 then.
+// The leaf of nearest: the point under trial becomes the best if there is none, if it is nearer than the best, or as
+// near and lexicographically first. `found` is 0 as long as there is none, and 1 then.
 fn consider(s: RecursiveSearch, n: usize, distance: f64, found: &mut u64) -> RecursiveSearch
-    requires { ⌜ n ≤ 23 ⌝ }
-    ensures { λ r. ⌜ Considered n s distance (now (found .entry)) r (now (found .exit)) ⌝ }
+    requires { ⌜ n ≤ largestDimension ⌝ }
+    ensures { λ r. ⌜ Considered n s distance (atEntry found) r (atExit found) ⌝ }
 {
     if *found == 0 {
         *found = 1;
-        return taken(s, distance);
+        return with_best(s, distance);
     }
     if distance < s.radius {
-        return taken(s, distance);
+        return with_best(s, distance);
     }
     if distance == s.radius {
         if before(&s.point, &s.best, n) {
-            return taken(s, distance);
+            return with_best(s, distance);
         }
     }
     s
 }
 
-// Writes a point's n coordinates over those of `points` from an index on.
-fn write(point: &[i64; 23], n: usize, from: usize, points: &mut [i64])
-    requires { ⌜ n ≤ 23 ⌝ }
-    requires { ⌜ length (now point) ≡ 23 ⌝ }
-    requires { ⌜ from + n ≤ length (now points) ⌝ }
-    ensures { λ r. ⌜ now (points .exit) ≡ paste (now (points .entry)) from (now (point .entry)) n ⌝ }
-{
-    let mut i = 0;
-    while i < n {
-        points[from + i] = point[i];
-        i += 1;
-    }
-}
-
 // The leaf of list: a point is counted, and stored with its distance if there is a place left.
 fn push(
-    point: &[i64; 23],
+    point: &[i64],
     n: usize,
     distance: f64,
     distances: &mut [f64],
     points: &mut [i64],
     found: &mut u64,
 )
-    requires { ⌜ n ≤ 23 ⌝ }
-    requires { ⌜ length (now point) ≡ 23 ⌝ }
-    requires { ⌜ now found ≤ 2 ^ 60 ⌝ }
-    requires { ⌜ length (now distances) ≤ 4096 ⌝ }
-    requires { ⌜ length (now points) ≡ length (now distances) * n ⌝ }
-    ensures { λ r. ⌜ Pushed n (now (point .entry)) distance (now (found .entry)) (now (found .exit)) (now (distances .entry)) (now (distances .exit)) (now (points .entry)) (now (points .exit)) ⌝ }
+    requires { ⌜ PushReady n (now point) (now found) (now distances) (now points) ⌝ }
+    ensures { λ r. ⌜ Pushed n (atEntry point) distance (atEntry found) (atExit found) (atEntry distances) (atExit distances) (atEntry points) (atExit points) ⌝ }
 {
     let at = *found as usize;
     *found += 1;
@@ -116,7 +115,9 @@ fn push(
         return;
     }
     distances[at] = distance;
-    write(point, n, at * n, points);
+    let start = at * n;
+    let end = start + n;
+    copy_i64(point, &mut points[start..end]);
 }
 
 // A level's generator: its centre comes from the residuals above it.
@@ -124,16 +125,12 @@ fn enter(
     mu: &[f64],
     weights: &[f64],
     target: &[f64],
-    rest: &[f64; 23],
+    rest: &[f64; LARGEST_DIMENSION],
     level: usize,
     remaining: f64,
 ) -> Level
-    requires { ⌜ length (now weights) ≤ 23 ⌝ }
-    requires { ⌜ length (now mu) ≡ length (now weights) * length (now weights) ⌝ }
-    requires { ⌜ length (now target) ≡ length (now weights) ⌝ }
-    requires { ⌜ length (now rest) ≡ 23 ⌝ }
-    requires { ⌜ level < length (now weights) ⌝ }
-    ensures { λ r. ⌜ r ≡ levelOf (Z.start (alongFrom (length (now (weights .entry))) (now (mu .entry)) level (level + 1) (places (length (now (weights .entry))) (level + 1) (now (rest .entry))) (coordinate (now (target .entry)) level)) remaining (getD (now (weights .entry)) level nan)) ⌝ }
+    requires { ⌜ EnterReady (now weights) (now mu) (now target) (now rest) level ⌝ }
+    ensures { λ r. ⌜ r ≡ levelOf (Z.start (centerSum (tableAt weights mu) (atEntry target) (atEntry rest) level) remaining (weight (tableAt weights mu) level)) ⌝ }
 {
     let value = center(mu, rest, weights.len(), level, target[level]);
     Children::new(value, remaining, weights[level])
@@ -150,7 +147,7 @@ pub fn run(
     mu: &[f64],
     weights: &[f64],
     target: &[f64],
-    rest: &mut [f64; 23],
+    rest: &mut [f64; LARGEST_DIMENSION],
     distances: &mut [f64],
     points: &mut [i64],
     found: &mut u64,
@@ -161,9 +158,8 @@ pub fn run(
     partial: f64,
     mut s: RecursiveSearch,
 ) -> RecursiveSearch
-    requires { ⌜ Ready (now weights) (now mu) (now target) (now rest) (now distances) (now points) budget depth (carried listing s (now found) (now exhausted)) ⌝ }
-    ensures { λ r. ⌜ seen (length (now (weights .entry))) (carried listing r (now (found .exit)) (now (exhausted .exit))) (now (distances .exit)) (now (points .exit)) ≡ walkFrom listing (table (now (weights .entry)) (now (mu .entry))) (now (target .entry)) budget depth partial (carried listing s (now (found .entry)) (now (exhausted .entry))) (now (distances .entry)) (now (points .entry)) ⌝ }
-    ensures { λ r. ⌜ Returned (length (now (weights .entry))) budget depth (carried listing s (now (found .entry)) (now (exhausted .entry))) (carried listing r (now (found .exit)) (now (exhausted .exit))) (now (rest .entry)) (now (rest .exit)) (now (distances .entry)) (now (distances .exit)) (now (points .entry)) (now (points .exit)) ⌝ }
+    requires { ⌜ Ready (callOf mu weights target rest distances points found exhausted listing budget depth partial s) ⌝ }
+    ensures { λ r. ⌜ Returned (callAt mu weights target rest distances points found exhausted listing budget depth partial s) (exitState rest distances points found exhausted listing r) ⌝ }
 {
     if depth == 0 {
         if listing {
@@ -235,17 +231,5 @@ pub fn run(
         };
         child = trial;
         zigzag = after;
-    }
-}
-
-// The start of a walk: no node, no best and no point found, and the radius standing.
-pub fn begun(radius: f64) -> RecursiveSearch
-    ensures { λ r. ⌜ r ≡ fresh radius ⌝ }
-{
-    RecursiveSearch {
-        point: [0; 23],
-        best: [0; 23],
-        radius,
-        nodes: 0,
     }
 }

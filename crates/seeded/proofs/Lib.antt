@@ -1,2 +1,2 @@
 -- Laws that several proofs cite.
-pub mod Sequels
+pub mod Candidates

@@ -1,64 +1,25 @@
 // What `nearest_seeded` and `nearest_ml` answer and leave in the slice that they are lent. Each line of the output has
 // the call, a case's name, then `found` and the node count, or the refusal's number with what it carries in brackets,
 // then the slice at exit, in square brackets. Before the call it holds what its case gives it, both ends of i64 among
-// it, and so it must after a refusal. Where a case parts document 01 from another reading, its comment names that.
+// it, and so it must after a refusal. Where a case parts the specification from another reading, its comment says so.
 //
 // The expected output of every call that the Rust knows is the Rust's: this program compiled as Rust, with the oracle
 // in the place of the crate `seeded` (tools/oracle/examples/seeded_test.rs). The Rust's InvalidRadius is 8, 11, 12 or
-// 13 by document 01, and its LengthMismatch 6 or 10. The lines of refusals 2 to 5 and 9, which the Rust does not have,
-// are document 01's.
+// 13 by the specification, its LengthMismatch 6 or 10. The lines of refusals 2 to 5 and 9, which the Rust has not, are
+// the specification's.
 //
-// No case gives refusal 17. The widened radius is strictly above the candidate's distance for n at least 1, a vector
+// No case gives refusal 17. Unless n is 0, the candidate's distance is strictly below the widened radius; a vector
 // strictly below the radius is admitted, and at n = 0 the empty vector is found.
 use enumerate::NearestAnswer;
+use printing::values::*;
 use refusals::Verdict;
-
-const LARGEST: f64 = 1.7976931348623157e308;
 
 // The double below the largest.
 const SECOND_LARGEST: f64 = 1.7976931348623155e308;
 
-const SMALLEST: f64 = 5e-324;
-
-// 2^52 and the next double.
-const LIMIT: f64 = 4503599627370496.0;
-
-const BEYOND: f64 = 4503599627370497.0;
-
-// The largest budget, 2^60.
-const MOST: u64 = 1152921504606846976;
-
-const EVERY: u64 = 18446744073709551615;
-
-fn infinity() -> f64 {
-    1.0 / 0.0
-}
-
-fn nan() -> f64 {
-    0.0 / 0.0
-}
-
-// The entries are those at 3, 6 and 7; no other is read.
-fn triangle(entries: [f64; 3]) -> [f64; 9] {
-    [
-        nan(),
-        -LARGEST,
-        nan(),
-        entries[0],
-        infinity(),
-        nan(),
-        entries[1],
-        entries[2],
-        nan(),
-    ]
-}
-
 fn answer(a: NearestAnswer, out: &[i64]) {
     match a {
-        NearestAnswer::Found(point) => {
-            printing::word(b" found ");
-            io::print_decimal(1, point.nodes);
-        }
+        NearestAnswer::Found(point) => printing::found(point.nodes),
         NearestAnswer::Refused(e) => printing::verdict(Verdict::Refuse(e)),
     }
     printing::integers(out);
@@ -99,7 +60,6 @@ fn seeded_one(name: &[u8], weight: f64, target: f64, candidate: i64, radius: f64
     );
 }
 
-// Only the entry at 2 is read.
 fn seeded_two(
     name: &[u8],
     weights: [f64; 2],
@@ -109,7 +69,7 @@ fn seeded_two(
     radius: f64,
     budget: u64,
 ) {
-    let mu = [nan(), -infinity(), entry, LARGEST];
+    let mu = mu_of_two(entry);
     let mut out = [7, i64::MIN];
     seeded(
         name,
@@ -132,7 +92,7 @@ fn seeded_three(
     radius: f64,
     budget: u64,
 ) {
-    let mu = triangle(entries);
+    let mu = mu_of_three(entries);
     let mut out = [i64::MIN, -8, i64::MAX];
     seeded(
         name,
@@ -161,15 +121,14 @@ fn ml_one(name: &[u8], weight: f64, target: f64, budget: u64) {
     ml(name, &weights, &mu, &targets, &mut out, budget);
 }
 
-// Only the entry at 2 is read.
 fn ml_two(name: &[u8], weights: [f64; 2], entry: f64, target: [f64; 2], budget: u64) {
-    let mu = [nan(), -infinity(), entry, LARGEST];
+    let mu = mu_of_two(entry);
     let mut out = [7, i64::MIN];
     ml(name, &weights, &mu, &target, &mut out, budget);
 }
 
 fn ml_three(name: &[u8], weights: [f64; 3], entries: [f64; 3], target: [f64; 3], budget: u64) {
-    let mu = triangle(entries);
+    let mu = mu_of_three(entries);
     let mut out = [i64::MIN, -8, i64::MAX];
     ml(name, &weights, &mu, &target, &mut out, budget);
 }
@@ -481,7 +440,7 @@ fn ml_widened() {
 
 // ---- the ends of the domain
 
-// The weights are 2^-126 and 2^-104. An i64 becomes a double by nearest-even: the first two candidates become 2^63 and
+// The weights are 2^-126 and 2^-104. A candidate is converted with ties to even: the first two become 2^63 and
 // -2^63; 2^53 + 1 becomes 2^53, whose distance is 1; 2^53 + 3 becomes 2^53 + 4, whose distance is 1 + 2^-49.
 fn large_candidates() {
     let small = 1.1754943508222875e-38;
@@ -603,7 +562,7 @@ fn table(name: &[u8], weights: &[f64], mu: &[f64]) {
 }
 
 fn entries(name: &[u8], a: f64, b: f64, weights: [f64; 3]) {
-    let mu = [nan(), nan(), nan(), a, LARGEST, infinity(), b, 1.0, nan()];
+    let mu = mu_of_three([a, b, 1.0]);
     table(name, &weights, &mu);
 }
 

@@ -1,8 +1,8 @@
--- The call `distance`, which document 01 has not: the computed distance of a point that the caller gives. Definitions only.
+-- The call `distance` of the C interface: the computed distance of a point that the caller gives. Definitions only.
 use mathlib.Core.List.{List, [], _∷_, _++_}
 use lib.IntN.{ℤ}
 use lib.Ieee.{Float}
-use Rattle.definitions.specs.Table.{Table}
+use Rattle.definitions.specs.Table.{Table, largestDimension}
 use Rattle.definitions.specs.Distance.{distance, partial}
 use Rattle.definitions.specs.Checks.{Verdict, firstRefusal, candidateDistanceCheck}
 use Rattle.definitions.specs.Calls.{Answer, found, after, searchChecks}
@@ -10,9 +10,9 @@ use Rattle.definitions.specs.Calls.{Answer, found, after, searchChecks}
 -- 2 to 7 with the point in the output's place, then 11
 unfoldable pub distanceChecks : Table → List Float → List ℤ → Verdict
 unfolding firstRefusal searchChecks partial
-distanceChecks t target point = firstRefusal (searchChecks t target point ++ candidateDistanceCheck (distance t target point) ∷ [])
+distanceChecks t target point = firstRefusal (searchChecks largestDimension t target point ++ candidateDistanceCheck (distance t target point) ∷ [])
 
--- `distance`: "If it overflows, the vector has none"
+-- `distance`: the sum, and 11 where it overflows
 unfoldable pub pointDistance : Table → List Float → List ℤ → Answer Float
 unfolding after distanceChecks partial
 pointDistance t target point = after (distanceChecks t target point) (found (distance t target point))

@@ -1,3 +1,4 @@
 -- What the contracts cite.
 pub mod Reports
+pub mod Told
 pub mod Distance

@@ -1,35 +1,29 @@
 -- What the C interface tells of an answer beside the lent slices: a number, two whole numbers and a double. Definitions only.
 use Prim.Native.Nat.{ℕ}
-use mathlib.Core.List.{List, [], _∷_}
-use lib.ListN.{getD}
+use denote.Ref.{RefT}
+use denote.Triple.Both.{Both}
 use lib.Ieee.{Float}
 use Rattle.definitions.specs.Table.{plusZero}
-use Rattle.definitions.specs.Refusals.{Value, whole, real, Refusal}
+use Rattle.definitions.specs.Lent.{atExit}
+use Rattle.definitions.specs.Refusals.{Refusal}
+use Rattle.refusals.specs.Numbers.{carriedBy}
 use Rattle.definitions.specs.Checks.{Verdict, pass, refuse}
 use Rattle.definitions.specs.Calls.{Answer, found, refused}
 use Rattle.definitions.specs.Calls as C
 use Rattle.listing.specs.View.{Counts}
 use Rattle.snowgimmer.specs.declared.report.Report.{Report}
 
--- the whole numbers among a refusal's values, in their order
-unfoldable pub wholes : List Value → List ℕ
-wholes [] = []
-wholes (whole n ∷ values) = n ∷ wholes values
-wholes (real x ∷ values) = wholes values
-
--- the double among a refusal's values, or plus zero
-unfoldable pub double : List Value → Float
-double [] = plusZero
-double (whole n ∷ values) = double values
-double (real x ∷ values) = x
-
 -- a report by its parts
 abbrev pub told : ℕ → ℕ → ℕ → Float → Report
 told number a b x = record { number = number; first = a; second = b; real = x }
 
--- a refusal: its number and its values, 0 where it has fewer whole numbers
+-- what an exported function tells: its result and what it writes through its three pointers
+abbrev pub toldAt : {S S′ S″ : Type 0} → ℕ → Both S (RefT ℕ) → Both S′ (RefT ℕ) → Both S″ (RefT Float) → Report
+toldAt number a b x = told number (atExit a) (atExit b) (atExit x)
+
+-- a refusal: its number and its values, 0 for what it does not carry
 abbrev pub ofRefusal : Refusal → Report
-ofRefusal e = told (e .number) (getD (wholes (e .values)) 0 0) (getD (wholes (e .values)) 1 0) (double (e .values))
+ofRefusal e = let c = carriedBy e in told (c .number) (c .first) (c .second) (c .real)
 
 -- nearest, nearest_seeded and nearest_ml: the nodes
 abbrev pub ofNearest : Answer C.NearestPoint → Report

@@ -2,17 +2,19 @@
 // real: what a success tells, or what the refusal carries. A refusal leaves every lent slice as it was.
 ghost use mathlib.Core.Path.{_≡_};
 ghost use Rattle.rounding.specs.Integers.{roundAway};
-ghost use Rattle.definitions.specs.Table.{table};
+ghost use Rattle.definitions.specs.Lent.{atEntry, atExit, tableAt};
 ghost use Rattle.definitions.specs.Calls as C;
-ghost use Rattle.listing.specs.View.{countsOf};
-ghost use Rattle.snowgimmer.specs.Reports as R;
+ghost use Rattle.snowgimmer.specs.Reports.{toldAt, ofDistance};
+ghost use Rattle.snowgimmer.specs.Told.{NearestTold, SeededTold, MlTold, ListTold, RoundTold, PlaneTold};
 ghost use Rattle.snowgimmer.specs.Distance.{pointDistance};
 
+mod integers;
 mod report;
 
 use babai::nearest_plane;
 use babai::round;
 use enumerate::nearest;
+use integers::read_integers;
 use listing::list;
 use report::distance_report;
 use report::list_report;
@@ -46,8 +48,7 @@ pub extern "C" fn snowgimmer_nearest(
     second: &mut u64,
     real: &mut f64,
 ) -> u32
-    ensures { λ r. ⌜ R.told r (now (first .exit)) (now (second .exit)) (now (real .exit)) ≡ R.ofNearest (C.nearest (table (now (weights .entry)) (now (mu .entry))) (now (target .entry)) (now (out .entry)) radius budget) ⌝ }
-    ensures { λ r. ⌜ now (out .exit) ≡ C.nearestOutput (C.nearest (table (now (weights .entry)) (now (mu .entry))) (now (target .entry)) (now (out .entry)) radius budget) (now (out .entry)) ⌝ }
+    ensures { λ r. ⌜ NearestTold (tableAt weights mu) (atEntry target) (atEntry out) radius budget (toldAt r first second real) (atExit out) ⌝ }
 {
     let answer = nearest(weights, mu, target, out, radius, budget);
     stored(nearest_report(answer), first, second, real)
@@ -70,9 +71,9 @@ pub extern "C" fn snowgimmer_nearest_seeded(
     second: &mut u64,
     real: &mut f64,
 ) -> u32
-    ensures { λ r. ⌜ R.told r (now (first .exit)) (now (second .exit)) (now (real .exit)) ≡ R.ofNearest (C.nearestSeeded (table (now (weights .entry)) (now (mu .entry))) (now (target .entry)) (now (out .entry)) (now (candidate .entry)) radius budget) ⌝ }
-    ensures { λ r. ⌜ now (out .exit) ≡ C.nearestOutput (C.nearestSeeded (table (now (weights .entry)) (now (mu .entry))) (now (target .entry)) (now (out .entry)) (now (candidate .entry)) radius budget) (now (out .entry)) ⌝ }
+    ensures { λ r. ⌜ SeededTold (tableAt weights mu) (atEntry target) (atEntry out) (atEntry candidate) radius budget (toldAt r first second real) (atExit out) ⌝ }
 {
+    read_integers(candidate);
     let answer = nearest_seeded(weights, mu, target, out, candidate, radius, budget);
     stored(nearest_report(answer), first, second, real)
 }
@@ -91,15 +92,14 @@ pub extern "C" fn snowgimmer_nearest_ml(
     second: &mut u64,
     real: &mut f64,
 ) -> u32
-    ensures { λ r. ⌜ R.told r (now (first .exit)) (now (second .exit)) (now (real .exit)) ≡ R.ofNearest (C.nearestMl (table (now (weights .entry)) (now (mu .entry))) (now (target .entry)) (now (out .entry)) budget) ⌝ }
-    ensures { λ r. ⌜ now (out .exit) ≡ C.nearestOutput (C.nearestMl (table (now (weights .entry)) (now (mu .entry))) (now (target .entry)) (now (out .entry)) budget) (now (out .entry)) ⌝ }
+    ensures { λ r. ⌜ MlTold (tableAt weights mu) (atEntry target) (atEntry out) budget (toldAt r first second real) (atExit out) ⌝ }
 {
     let answer = nearest_ml(weights, mu, target, out, budget);
     stored(nearest_report(answer), first, second, real)
 }
 
-// Every integer vector that is admitted at the radius, by distance and then coordinates: first is the number of nodes, second
-// that of points. Places after the last point keep their contents. It needs about 0.95 MB of stack.
+// Every integer vector that is admitted at the radius, in the order of `list`: first is the number of nodes, second
+// that of points. What lies behind the last point stays as it was. It needs about 0.95 MB of stack.
 //
 // Refused: 2 to 9, 14, 15 and 18.
 #[no_mangle]
@@ -115,9 +115,7 @@ pub extern "C" fn snowgimmer_list(
     second: &mut u64,
     real: &mut f64,
 ) -> u32
-    ensures { λ r. ⌜ R.told r (now (first .exit)) (now (second .exit)) (now (real .exit)) ≡ R.ofCounts (countsOf (C.list (table (now (weights .entry)) (now (mu .entry))) (now (target .entry)) (now (distances .entry)) (now (points .entry)) radius budget)) ⌝ }
-    ensures { λ r. ⌜ now (distances .exit) ≡ C.listDistances (C.list (table (now (weights .entry)) (now (mu .entry))) (now (target .entry)) (now (distances .entry)) (now (points .entry)) radius budget) (now (distances .entry)) ⌝ }
-    ensures { λ r. ⌜ now (points .exit) ≡ C.listPoints (C.list (table (now (weights .entry)) (now (mu .entry))) (now (target .entry)) (now (distances .entry)) (now (points .entry)) radius budget) (now (points .entry)) ⌝ }
+    ensures { λ r. ⌜ ListTold (tableAt weights mu) (atEntry target) (atEntry distances) (atEntry points) radius budget (toldAt r first second real) (atExit distances) (atExit points) ⌝ }
 {
     let answer = list(weights, mu, target, distances, points, radius, budget);
     stored(list_report(answer), first, second, real)
@@ -134,8 +132,7 @@ pub extern "C" fn snowgimmer_round(
     second: &mut u64,
     real: &mut f64,
 ) -> u32
-    ensures { λ r. ⌜ R.told r (now (first .exit)) (now (second .exit)) (now (real .exit)) ≡ R.ofVerdict (C.round (now (coefficients .entry)) (now (out .entry))) ⌝ }
-    ensures { λ r. ⌜ now (out .exit) ≡ C.roundOutput (C.round (now (coefficients .entry)) (now (out .entry))) (now (coefficients .entry)) (now (out .entry)) ⌝ }
+    ensures { λ r. ⌜ RoundTold (atEntry coefficients) (atEntry out) (toldAt r first second real) (atExit out) ⌝ }
 {
     let answer = round(coefficients, out);
     stored(verdict_report(answer), first, second, real)
@@ -154,9 +151,7 @@ pub extern "C" fn snowgimmer_nearest_plane(
     second: &mut u64,
     real: &mut f64,
 ) -> u32
-    ensures { λ r. ⌜ R.told r (now (first .exit)) (now (second .exit)) (now (real .exit)) ≡ R.ofVerdict (C.plane (table (now (weights .entry)) (now (mu .entry))) (now (coefficients .entry)) (now (out .entry))) ⌝ }
-    ensures { λ r. ⌜ now (out .exit) ≡ C.planeOutput (C.plane (table (now (weights .entry)) (now (mu .entry))) (now (coefficients .entry)) (now (out .entry))) (table (now (weights .entry)) (now (mu .entry))) (now (coefficients .entry)) (now (out .entry)) ⌝ }
-    ensures { λ r. ⌜ now (coefficients .exit) ≡ C.planeCoefficients (C.plane (table (now (weights .entry)) (now (mu .entry))) (now (coefficients .entry)) (now (out .entry))) (table (now (weights .entry)) (now (mu .entry))) (now (coefficients .entry)) ⌝ }
+    ensures { λ r. ⌜ PlaneTold (tableAt weights mu) (atEntry coefficients) (atEntry out) (toldAt r first second real) (atExit coefficients) (atExit out) ⌝ }
 {
     let answer = nearest_plane(weights, mu, coefficients, out);
     stored(verdict_report(answer), first, second, real)
@@ -175,7 +170,7 @@ pub extern "C" fn snowgimmer_distance(
     second: &mut u64,
     real: &mut f64,
 ) -> u32
-    ensures { λ r. ⌜ R.told r (now (first .exit)) (now (second .exit)) (now (real .exit)) ≡ R.ofDistance (pointDistance (table (now (weights .entry)) (now (mu .entry))) (now (target .entry)) (now (point .entry))) ⌝ }
+    ensures { λ r. ⌜ toldAt r first second real ≡ ofDistance (pointDistance (tableAt weights mu) (atEntry target) (atEntry point)) ⌝ }
 {
     stored(
         distance_report(weights, mu, target, point),

@@ -1,6 +1,5 @@
 -- Laws of the connectives of tests, as equations and as facts. Assumes nothing.
 use mathlib.Core.Path.{_≡_, refl, sym, ap, subst}
-use mathlib.Core.Logic.{_⊎_, inl, inr}
 use Prim.Native.Nat.{_≤_, _<_, zero-le}
 use native.Mathlib.Nat.{le-refl, lt-irrefl}
 use mathlib.Core.Bool.{Bool, true, false, not, _&&_, _||_}
@@ -24,26 +23,13 @@ pub to-false : (b : Bool) → (T b → ⊥) → b ≡ false
 to-false true h = absurd (h tt)
 to-false false h = refl
 
--- two tests that imply each other are equal
-pub same-test : (a b : Bool) → (T a → T b) → (T b → T a) → a ≡ b
-same-test true b f g = sym (to-true b (f tt))
-same-test false b f g = sym (to-false b g)
-
 pub and-false : (a : Bool) → (a && false) ≡ false
 and-false true = refl
 and-false false = refl
 
-pub or-cases : (a b : Bool) → T (a || b) → T a ⊎ T b
-or-cases true b h = inl tt
-or-cases false b h = inr h
-
 pub or-l : (a b : Bool) → T a → T (a || b)
 or-l true b h = tt
 or-l false b h = absurd h
-
-pub or-r : (a b : Bool) → T b → T (a || b)
-or-r true b h = tt
-or-r false b h = h
 
 pub tally-true : (b : Bool) → T b → tally b ≡ 1
 tally-true b h = ap tally (to-true b h)

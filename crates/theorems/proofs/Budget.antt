@@ -55,14 +55,14 @@ module _ {K : Type 0} (leaf : Leaf K) (outcome : Outcome K) (leaf-is : LeafOf le
   walk-exhausted b l m S e = agrees-exhausted (walkAll outcome centerOf t d zs p s) b (walk leaf centerOf t b d zs p (ended (s .kept) (s .standing) (s .nodes))) (walk-agrees leaf outcome leaf-is centerOf t b d zs p s l) m S e .1
 
 -- ---- `nearest` and `list`
-consider-leaf : LeafOf consider nearer
+pub consider-leaf : LeafOf consider nearer
 consider-leaf zs d k S m = consider-is zs d k S m ∙ go (replaces zs d k S)
   where
     go : (b : Bool) → cond b (ended (best zs) d m) (ended k S m) ≡ ended (cond b (best zs) k) (cond b d S) m
     go true = refl
     go false = refl
 
-collect-leaf : LeafOf collect added
+pub collect-leaf : LeafOf collect added
 collect-leaf zs d k S m = collect-is zs d k S m
 
 module _ (t : Table) (target : List Float) (R : Float) where
@@ -72,14 +72,14 @@ module _ (t : Table) (target : List Float) (R : Float) where
   pub list-agrees : (b : ℕ) → Agrees b (listAll t target R) (listWalk t target R b)
   list-agrees b = subst (Agrees b (listAll t target R)) (sym (listWalk-is t target R b)) (walk-agrees collect added collect-leaf (center t target) t b (dimension t) [] plusZero (record { kept = []; standing = R; nodes = 0 }) zero-le)
 
-  -- "a walk that ends at budget b ends alike at every larger one"
+  -- a walk that ends at budget b ends alike at every larger one
   pub nearest-alike : (b b′ : ℕ) → b ≤ b′ → (k : Best) (S : Float) (m : ℕ) → nearestWalk t target R b ≡ ended k S m → nearestWalk t target R b′ ≡ ended k S m
   nearest-alike b b′ h = alike (nearestAll t target R) b b′ (nearestWalk t target R b) (nearestWalk t target R b′) h (nearest-agrees b) (nearest-agrees b′)
 
   pub list-alike : (b b′ : ℕ) → b ≤ b′ → (k : List ListPoint) (S : Float) (m : ℕ) → listWalk t target R b ≡ ended k S m → listWalk t target R b′ ≡ ended k S m
   list-alike b b′ h = alike (listAll t target R) b b′ (listWalk t target R b) (listWalk t target R b′) h (list-agrees b) (list-agrees b′)
 
-  -- "in 15 the count is the budget"
+  -- in 15 the count is the budget
   pub nearest-exhausted : (b m : ℕ) (S : Float) → nearestWalk t target R b ≡ exhausted m S → m ≡ b
   nearest-exhausted b m S e = agrees-exhausted (nearestAll t target R) b (nearestWalk t target R b) (nearest-agrees b) m S e .1
 

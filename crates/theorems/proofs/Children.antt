@@ -11,11 +11,8 @@ use lib.IntN.{ℤ}
 use lib.Ieee.{Float, binary64, le}
 use lib.Ieee.Fits.{and-i, and-l, and-r}
 use Rattle.rounding.specs.Integers.{isI64, roundAway}
-use Rattle.rounding.proofs.Value.{Number, Finite, Weight, float-le-trans}
-use Rattle.rounding.proofs.Integers.{isI64-between}
-use Rattle.rounding.proofs.Scaled.{split}
-use Rattle.rounding.proofs.RoundAway.{roundAway-isI64}
-use Rattle.rounding.proofs.Term.{term as termIn, term-nonneg, term-up, term-down, term-least}
+use Rattle.rounding.specs.Kinds.{Number, Finite}
+use Rattle.rounding.proofs.Interface.{Weight, float-le-trans, isI64-between, split, roundAway-isI64, term as termIn, term-nonneg, term-up, term-down, term-least}
 use Rattle.definitions.specs.Distance.{term}
 use Rattle.definitions.specs.Zigzag.{Zigzag, Next, child, none, bothDone, next}
 use Rattle.definitions.proofs.Distances.{term-is}

@@ -11,9 +11,8 @@ use lib.IntN.{ℤ}
 use lib.Ieee.{Float, binary64, sub, le, lt}
 use lib.Ieee.Fits.{and-i}
 use Rattle.rounding.specs.Integers.{isI64}
-use Rattle.rounding.proofs.Value.{Finite, NonNegative, number, ord, ord→lt}
-use Rattle.rounding.proofs.Scaled.{split}
-use Rattle.rounding.proofs.NonNegative.{remaining-fits}
+use Rattle.rounding.specs.Kinds.{Finite, NonNegative}
+use Rattle.rounding.proofs.Interface.{number, ord, ord→lt, split, remaining-fits}
 use Rattle.definitions.specs.Table.{Table, dimension, weight}
 use Rattle.definitions.specs.Distance.{center, term, partial}
 use Rattle.definitions.specs.Admitted.{allI64}

@@ -12,7 +12,7 @@ use lib.Ieee.{Float, le}
 use lib.Ieee.Fits.{and-l}
 use Rattle.rounding.specs.Integers.{isI64, roundAway}
 use Rattle.definitions.specs.Distance.{term}
-use Rattle.definitions.specs.Zigzag.{Zigzag, Next, child, none, open-level, no-children, start, fresh, oneStep, secondStep, next}
+use Rattle.definitions.specs.Zigzag.{Zigzag, Next, child, none, open-level, no-children, start, newZigzag, oneStep, secondStep, next}
 use Rattle.definitions.proofs.Steps.{secondStep-child, secondStep-none, next-is}
 use Rattle.theorems.specs.Children.{childrenFrom, childrenOf, children, stepLimit, upwardAt, zigzagAt, isChild}
 use Rattle.theorems.proofs.Booleans.{of-true, refuted}
@@ -31,11 +31,11 @@ step-is : (c r w : Float) (s : ℕ) (u d : Bool) → oneStep (generator c r w s 
 unfolding oneStep upwardAt zigzagAt isChild
 step-is c r w s u d = refl
 
-next-fresh : (c r w : Float) → next (fresh c r w) ≡ child (roundAway c) (generator c r w 1 false false)
-unfolding next fresh
+next-fresh : (c r w : Float) → next (newZigzag c r w) ≡ child (roundAway c) (generator c r w 1 false false)
+unfolding next newZigzag
 next-fresh c r w = refl
 
-pub start-is : (c r w : Float) → start c r w ≡ cond (le (term w c (roundAway c)) r) (open-level (fresh c r w)) no-children
+pub start-is : (c r w : Float) → start c r w ≡ cond (le (term w c (roundAway c)) r) (open-level (newZigzag c r w)) no-children
 unfolding start
 start-is c r w = refl
 
@@ -156,7 +156,7 @@ module _ (c r w : Float) where
       less L s k f p q a = omega arith
 
   -- the children of a level, with any fuel above the step limit
-  pub enough-fuel : (n : ℕ) → childrenFrom (suc (suc stepLimit) + n) (next (fresh c r w)) ≡ childrenFrom (suc (suc stepLimit)) (next (fresh c r w))
+  pub enough-fuel : (n : ℕ) → childrenFrom (suc (suc stepLimit) + n) (next (newZigzag c r w)) ≡ childrenFrom (suc (suc stepLimit)) (next (newZigzag c r w))
   enough-fuel n =
       subst (λ (x : Next). childrenFrom (suc (suc stepLimit) + n) x ≡ childrenFrom (suc (suc stepLimit)) x) (sym (next-fresh c r w))
       (subst (λ (k : ℕ). childrenFrom k (child (roundAway c) (generator c r w 1 false false)) ≡ childrenFrom (suc (suc stepLimit)) (child (roundAway c) (generator c r w 1 false false))) (sums stepLimit n)
@@ -171,6 +171,6 @@ module _ (c r w : Float) where
   pub children-first : children c r w ≡ cond (le (term w c (roundAway c)) r) (roundAway c ∷ childrenFrom (suc stepLimit) (next (generator c r w 1 false false))) []
   children-first = children-is c r w ∙ ap childrenOf (start-is c r w) ∙ go (le (term w c (roundAway c)) r)
     where
-      go : (b : Bool) → childrenOf (cond b (open-level (fresh c r w)) no-children) ≡ cond b (roundAway c ∷ childrenFrom (suc stepLimit) (next (generator c r w 1 false false))) []
-      go true = of-open (fresh c r w) ∙ ap (childrenFrom (suc (suc stepLimit))) (next-fresh c r w) ∙ from-child (suc stepLimit) (roundAway c) (generator c r w 1 false false)
+      go : (b : Bool) → childrenOf (cond b (open-level (newZigzag c r w)) no-children) ≡ cond b (roundAway c ∷ childrenFrom (suc stepLimit) (next (generator c r w 1 false false))) []
+      go true = of-open (newZigzag c r w) ∙ ap (childrenFrom (suc (suc stepLimit))) (next-fresh c r w) ∙ from-child (suc stepLimit) (roundAway c) (generator c r w 1 false false)
       go false = of-none

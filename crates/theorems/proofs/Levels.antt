@@ -10,7 +10,7 @@ use lib.Ieee.{Float, binary64, add, sub, le}
 use Rattle.rounding.specs.Integers.{roundAway}
 use Rattle.definitions.specs.Table.{Table, weight}
 use Rattle.definitions.specs.Distance.{term}
-use Rattle.definitions.specs.Zigzag.{Next, child, none, Start, open-level, no-children, start, fresh, next}
+use Rattle.definitions.specs.Zigzag.{Next, child, none, Start, open-level, no-children, start, newZigzag, next}
 use Rattle.definitions.specs.Walk.{Walked, ended, exhausted, Leaf, Descent, visit, tryChildren, tryLevel, enter}
 use Rattle.definitions.proofs.Turns.{children-unfueled, children-exhausted, children-none, children-child, level-closed, level-open, enter-ended}
 use Rattle.definitions.proofs.Fuel.{Counting, fuel-is-enough}
@@ -47,11 +47,11 @@ module _ {K : Type 0} (leaf : Leaf K) (centerOf : ℕ → List ℤ → Float) (t
       ∙ sym (ap (λ (cs : List ℤ). tryEach cs (ended k S m)) (from-child fuel z g) ∙ each-cons z (childrenFrom fuel (next g)) k S m)
 
   module _ (counting : Counting down) (r : Float) (k : K) (S : Float) (m : ℕ) where
-    open-each : tryChildren leaf centerOf t budget down level zs p c (suc budget) (next (fresh c r (weight t level))) (ended k S m) ≡ tryEach (childrenOf (open-level (fresh c r (weight t level)))) (ended k S m)
+    open-each : tryChildren leaf centerOf t budget down level zs p c (suc budget) (next (newZigzag c r (weight t level))) (ended k S m) ≡ tryEach (childrenOf (open-level (newZigzag c r (weight t level)))) (ended k S m)
     open-each =
-        fuel-is-enough leaf centerOf t budget down counting level zs p c (suc budget) (suc (suc stepLimit) + suc budget) (next (fresh c r (weight t level))) k S m (low budget m) (high budget m stepLimit)
-        ∙ children-each (suc (suc stepLimit) + suc budget) (next (fresh c r (weight t level))) (ended k S m)
-        ∙ ap (λ (cs : List ℤ). tryEach cs (ended k S m)) (enough-fuel c r (weight t level) (suc budget) ∙ sym (of-open (fresh c r (weight t level))))
+        fuel-is-enough leaf centerOf t budget down counting level zs p c (suc budget) (suc (suc stepLimit) + suc budget) (next (newZigzag c r (weight t level))) k S m (low budget m) (high budget m stepLimit)
+        ∙ children-each (suc (suc stepLimit) + suc budget) (next (newZigzag c r (weight t level))) (ended k S m)
+        ∙ ap (λ (cs : List ℤ). tryEach cs (ended k S m)) (enough-fuel c r (weight t level) (suc budget) ∙ sym (of-open (newZigzag c r (weight t level))))
       where
         low : (b m : ℕ) → b - m < suc b
         low b m = omega arith
@@ -62,8 +62,8 @@ module _ {K : Type 0} (leaf : Leaf K) (centerOf : ℕ → List ℤ → Float) (t
     pub level-each : tryLevel leaf centerOf t budget down level zs p c (start c r (weight t level)) (ended k S m) ≡ tryEach (children c r (weight t level)) (ended k S m)
     level-each = ap (λ (x : Start). tryLevel leaf centerOf t budget down level zs p c x (ended k S m)) (start-is c r (weight t level)) ∙ go (le (term (weight t level) c (roundAway c)) r) ∙ ap (λ (cs : List ℤ). tryEach cs (ended k S m)) (sym (ap childrenOf (start-is c r (weight t level))) ∙ sym (children-is c r (weight t level)))
       where
-        go : (b : Bool) → tryLevel leaf centerOf t budget down level zs p c (cond b (open-level (fresh c r (weight t level))) no-children) (ended k S m) ≡ tryEach (childrenOf (cond b (open-level (fresh c r (weight t level))) no-children)) (ended k S m)
-        go true = level-open leaf centerOf t budget down level zs p c (fresh c r (weight t level)) (ended k S m) ∙ open-each
+        go : (b : Bool) → tryLevel leaf centerOf t budget down level zs p c (cond b (open-level (newZigzag c r (weight t level))) no-children) (ended k S m) ≡ tryEach (childrenOf (cond b (open-level (newZigzag c r (weight t level))) no-children)) (ended k S m)
+        go true = level-open leaf centerOf t budget down level zs p c (newZigzag c r (weight t level)) (ended k S m) ∙ open-each
         go false = level-closed leaf centerOf t budget down level zs p c (ended k S m) ∙ sym (ap (λ (cs : List ℤ). tryEach cs (ended k S m)) of-none ∙ each-nil (ended k S m))
 
 -- a level tries all its children in turn

@@ -22,17 +22,31 @@ pub mod Covered
 pub mod Search
 pub mod Least
 pub mod Radius
+pub mod Standing
 pub mod Seeded
 -- ---- list
 pub mod Listing
 pub mod Orders
 pub mod Sorting
 -- ---- the checks
+pub mod FirstFaults
 pub mod FirstRefusal
+pub mod CheckNumbers
+pub mod CallNumbers
 -- ---- the calls
 pub mod Endings
 pub mod EndsAsWalk
-pub mod NearestCall
-pub mod ListCall
-pub mod WidenedCalls
 pub mod RefusedCalls
+pub mod SearchCalls
+pub mod ListCall
+pub mod Promises
+-- ---- entries that are not read
+pub mod SameDistances
+pub mod SameWalks
+pub mod SamePlanes
+pub mod SameChecks
+pub mod SameCalls
+-- ---- a job's bytes
+pub mod EncodedSections
+pub mod EncodedRows
+pub mod EncodedJobs

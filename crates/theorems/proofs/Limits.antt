@@ -9,8 +9,8 @@ use lib.ListN.{length}
 use lib.IntN.{ℤ}
 use lib.Ieee.{Float, binary64, add, sub, mul}
 use Rattle.rounding.specs.Integers.{toDouble, isI64}
-use Rattle.rounding.proofs.Value.{Finite, Weight}
-use Rattle.rounding.proofs.PowerBounds.{Within, within-more, within-sub, within-add, within-mul, within-ofInt}
+use Rattle.rounding.specs.Kinds.{Finite}
+use Rattle.rounding.proofs.Interface.{Weight, Within, within-more, within-sub, within-add, within-mul, within-ofInt}
 use Rattle.definitions.specs.Table.{Table, dimension, weight, entry, coordinate}
 use Rattle.definitions.specs.Distance.{centerFrom, center}
 use Rattle.definitions.specs.Admitted.{allI64}

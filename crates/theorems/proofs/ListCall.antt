@@ -1,131 +1,124 @@
--- The theorem of `list`, over the call itself: what it gives is exactly the admitted vectors, each once, each with its own distance, by distance and then coordinates, and its count is the number of opened prefixes. Assumes nothing.
+-- What `list` promises: every admitted vector once, nothing else, in the list's order; and by the numbers of opened prefixes and admitted vectors, whether it is a list, 15 or 18. Assumes nothing.
 use mathlib.Core.Path.{_≡_, refl, sym, ap, _∙_, subst}
-use mathlib.Core.Logic.{_↔_}
+use mathlib.Core.Logic.{inl, inr}
 use Prim.Native.Nat.{ℕ, suc, _≤_, _<_}
+use native.Mathlib.Nat.{not-le-of-lt}
 use native.Mathlib.Omega.{arith}
-use borrow.Author.Tests.{ltb-true}
-use mathlib.Core.Bool.{Bool, true, false, not}
+use borrow.Author.Tests.{ltb-true, ltb-false}
+use mathlib.Core.Bool.{Bool, true, false}
 use mathlib.Core.List.{List, [], _∷_}
-use lib.Dec.{T, ltb, lit≤}
+use lib.Dec.{ltb}
 use lib.ListN.{length}
-use lib.IntN.{ℤ}
-use lib.Ieee.{Float, binary64, fits, lt}
-use Rattle.rounding.proofs.Value.{Finite}
-use Rattle.definitions.specs.Table.{Table, dimension, plusZero, largestDimension}
-use Rattle.definitions.specs.Admitted.{admitted, opened}
-use Rattle.definitions.specs.Walk.{Walked, ended, exhausted}
-use Rattle.definitions.specs.Listing.{ListPoint, listWalk, sorted}
-use Rattle.definitions.specs.Refusals.{Refusal, whole, budgetExhausted, listFull}
-use Rattle.definitions.specs.Checks.{pass, handedOn}
-use Rattle.definitions.specs.Calls.{found, refused, ListAnswer, endOfList, listChecks, list}
-use Rattle.definitions.proofs.Passed.{list-passed}
-use Rattle.definitions.proofs.Answers.{list-exhausted, list-full, list-sorted, list-is, list-checked}
-use Rattle.theorems.specs.Doubles.{ofDoubles}
-use Rattle.theorems.specs.Counting.{EachOnce}
+use lib.Ieee.{Float}
+use Rattle.definitions.specs.Table.{Table}
+use Rattle.definitions.specs.Admitted.{admitted}
+use Rattle.definitions.specs.Walk.{exhausted}
+use Rattle.definitions.specs.Listing.{ListPoint, listWalk}
+use Rattle.definitions.specs.Refusals.{Refusal, whole, real, budgetExhausted, listFull}
+use Rattle.definitions.specs.Calls.{Answer, found, refused, ListAnswer, endOfList}
+use Rattle.definitions.proofs.Answers.{found≢refused, refused-same, list-exhausted, list-full, list-sorted, list-walked}
 use Rattle.theorems.specs.Ordered.{vectorsOf, StrictlyOrdered}
-use Rattle.theorems.proofs.Limits.{Limits}
-use Rattle.theorems.proofs.Checked.{limits-of-checks}
-use Rattle.theorems.proofs.Counts.{same-length}
+use Rattle.theorems.specs.Prefixes.{openedPrefixes, admittedVectors}
 use Rattle.theorems.specs.Answers.{Listed}
-use Rattle.theorems.proofs.Listing.{list-exact, list-ends-exactly, list-enough}
+use Rattle.theorems.specs.Promises.{ListNumbers}
+use Rattle.theorems.proofs.Counts.{same-length}
+use Rattle.theorems.proofs.Prefixes.{admitted-once}
+use Rattle.theorems.proofs.Unbudgeted.{Agrees}
+use Rattle.theorems.proofs.Listing.{addAll, stands, list-exact, list-agrees-prefixes}
 use Rattle.theorems.proofs.Sorting as S
-use Rattle.theorems.proofs.Endings.{found≢refused, refused-same, exhausted-same, found-passed}
-use Rattle.theorems.proofs.EndsAsWalk.{list-ends}
-use Rattle.theorems.proofs.NearestCall.{radius-finite, radius-plus}
-
--- a list found is the walk's points in their order
-list-walked : (places : ℕ) (w : Walked (List ListPoint)) (a : ListAnswer) → endOfList places w ≡ found a → (ps : List ListPoint) × (S : Float) × (w ≡ ended ps S (a .nodes)) × (a .points ≡ sorted ps)
-list-walked places (exhausted m R) a e = absurd (found≢refused (sym e ∙ list-exhausted places m R))
-list-walked places (ended ps R m) a e = go (ltb places (length ps)) refl
-  where
-    go : (b : Bool) → ltb places (length ps) ≡ b → (qs : List ListPoint) × (S : Float) × (ended ps R m ≡ ended qs S (a .nodes)) × (a .points ≡ sorted qs)
-    go true q = absurd (found≢refused (sym e ∙ list-full places ps R m q))
-    go false q =
-        let f : found (record { nodes = m; points = sorted ps }) ≡ found a = sym (list-sorted places ps R m q) ∙ e in
-        let r : record { nodes = m; points = sorted ps } ≡ a = cc in
-        (ps, R, ap (λ (b : ListAnswer). ended ps R (b .nodes)) r, sym (ap (λ (b : ListAnswer). b .points) r))
-
--- a list refused by 15 is a walk that was exhausted so
-list-refused-exhausted : (places : ℕ) (w : Walked (List ListPoint)) (m : ℕ) (S : Float) → endOfList places w ≡ refused (budgetExhausted m S) → w ≡ exhausted m S
-list-refused-exhausted places (exhausted k R) m S e = exhausted-same k R m S (sym (list-exhausted places k R) ∙ e)
-list-refused-exhausted places (ended ps R k) m S e = go (ltb places (length ps)) refl
-  where
-    go : (b : Bool) → ltb places (length ps) ≡ b → ended ps R k ≡ exhausted m S
-    go true q = absurd (clash (ap (λ (r : Refusal). r .number) (refused-same (sym (list-full places ps R k q) ∙ e))))
-      where
-        clash : listFull (length ps) .number ≡ budgetExhausted m S .number → ⊥
-        clash n = omega arith
-    go false q = absurd (found≢refused (sym (list-sorted places ps R k q) ∙ e))
+use Rattle.theorems.proofs.Standing.{list-radius}
+use Rattle.theorems.proofs.SearchCalls.{Ready, number-of-prefixes}
 
 vectors-length : (ps : List ListPoint) → length (vectorsOf ps) ≡ length ps
 vectors-length [] = refl
 vectors-length (p ∷ ps) = ap suc (vectors-length ps)
 
-number-clash : _≡_ {A = ℕ} 15 18 → ⊥
-number-clash p = omega (arith, p)
+-- ---- refusals that are the same, or not
+spent-same : {j m : ℕ} {R S : Float} → budgetExhausted j R ≡ budgetExhausted m S → (m ≡ j) × (S ≡ R)
+spent-same {j} {m} {R} {S} p = let v : (whole j ∷ real R ∷ []) ≡ (whole m ∷ real S ∷ []) = ap (λ (r : Refusal). r .values) p in (cc, cc)
 
-full-same : {j k : ℕ} → listFull j ≡ listFull k → j ≡ k
+full-same : {j k : ℕ} → listFull j ≡ listFull k → k ≡ j
 full-same {j} {k} p = let v : (whole j ∷ []) ≡ (whole k ∷ []) = ap (λ (r : Refusal). r .values) p in cc
 
-module _ (t : Table) (target distances : List Float) (points : List ℤ) (R : Float) (budget : ℕ) (few : dimension t ≤ 23) (doubles : T (ofDoubles t target)) (double : T (fits binary64 R)) where
-  within : listChecks t target distances points R budget ≡ pass → Limits t target
-  within q = let p = list-passed t target distances points R budget q in limits-of-checks largestDimension t target (lit≤ tt) doubles (p .checked) (p .target-length) (p .targets)
+not-both : {j k : ℕ} {R : Float} → budgetExhausted j R ≡ listFull k → ⊥
+not-both {j} {k} {R} p = let n : _≡_ {A = ℕ} 15 18 = ap (λ (r : Refusal). r .number) p in omega (arith, n)
 
-  -- "the list is proved to be exactly the admitted vectors, each once, by distance and then coordinates"; "Its node count is the number of opened prefixes"
-  pub list-call-exact : (a : ListAnswer) → list t target distances points R budget ≡ found a → Listed t target (handedOn R) (a .points) (a .nodes) × StrictlyOrdered (a .points)
-  list-call-exact a e =
-      let p = found-passed (listChecks t target distances points R budget) (endOfList (length distances) (listWalk t target (handedOn R) budget)) a (sym (list-is t target distances points R budget) ∙ e) in
-      let r = list-passed t target distances points R budget (p .0) .radius in
-      let w = list-walked (length distances) (listWalk t target (handedOn R) budget) a (p .1) in
+-- ---- any call that is the end of the list walk
+module _ {t : Table} {target : List Float} {R : Float} (ready : Ready t target R) (budget places : ℕ) {answer : Answer ListAnswer} (is : answer ≡ endOfList places (listWalk t target R budget)) where
+  -- a list has every admitted vector once, nothing else, in the list's order; its nodes are as many as the opened prefixes
+  pub list-found : (a : ListAnswer) → answer ≡ found a → Listed t target R (a .points) (a .nodes) × StrictlyOrdered (a .points)
+  list-found a q =
+      let w = list-walked places (listWalk t target R budget) a (sym is ∙ q) in
       subst (λ (ps : List ListPoint). Listed t target R ps (a .nodes) × StrictlyOrdered ps) (sym (w .3))
-      (S.list-sorted t target (within (p .0)) R (radius-finite R double r) (radius-plus R r) budget (w .0) (w .1) (a .nodes) (w .2))
+      (S.list-sorted t target (ready .limits) R (ready .finite) (ready .plus) budget (w .0) (w .1) (a .nodes) (w .2))
 
-  -- a budget of at least the number of opened prefixes is never exhausted
-  pub list-call-enough : listChecks t target distances points R budget ≡ pass → (L : List (List ℤ)) → EachOnce (opened t target (handedOn R)) L → length L ≤ budget → (m : ℕ) (Z : Float) → list t target distances points R budget ≡ refused (budgetExhausted m Z) → ⊥
-  list-call-enough q L o h m Z e =
-      let r = list-passed t target distances points R budget q .radius in
-      list-enough t target (within q) R (radius-finite R double r) (radius-plus R r) budget L o h m Z
-      (list-refused-exhausted (length distances) (listWalk t target (handedOn R) budget) m Z (sym (list-checked t target distances points R budget q) ∙ e))
+  abbrev prefixes : ℕ
+  prefixes = length (openedPrefixes t target R)
 
-  -- 18 exactly when the walk is not exhausted and the admitted vectors are more than the places; it carries their number
-  module _ (q : listChecks t target distances points R budget ≡ pass) (L A : List (List ℤ)) (o : EachOnce (opened t target (handedOn R)) L) (v : EachOnce (admitted t target (handedOn R)) A) where
-    abbrev walk : Walked (List ListPoint)
-    walk = listWalk t target (handedOn R) budget
+  abbrev vectors : ℕ
+  vectors = length (admittedVectors t target R)
 
-    abbrev places : ℕ
-    places = length distances
+  -- how it ends
+  data Ends : Type 0 where
+    spends : budget < prefixes → answer ≡ refused (budgetExhausted budget R) → Ends
+    fills : prefixes ≤ budget → places < vectors → answer ≡ refused (listFull vectors) → Ends
+    lists : prefixes ≤ budget → vectors ≤ places → (a : ListAnswer) → answer ≡ found a → Ends
 
-    finite-radius : Finite binary64 R
-    finite-radius = radius-finite R double (list-passed t target distances points R budget q .radius)
+  ends : Agrees budget (stands t target R (addAll t target R (admittedVectors t target R) []) prefixes) (listWalk t target R budget) → Ends
+  ends (inr (few, S, w)) = spends few (is ∙ ap (endOfList places) (w ∙ ap (exhausted budget) (list-radius t target R budget budget S w)) ∙ list-exhausted places budget R)
+  ends (inl (enough, w)) = go (ltb places (length ps)) refl
+    where
+      ps : List ListPoint
+      ps = addAll t target R (admittedVectors t target R) []
 
-    plus-radius : T (not (lt R plusZero))
-    plus-radius = radius-plus R (list-passed t target distances points R budget q .radius)
+      all : length ps ≡ vectors
+      all = sym (vectors-length ps) ∙ same-length (admitted t target R) (vectorsOf ps) (admittedVectors t target R) (list-exact t target (ready .limits) R (ready .finite) (ready .plus) budget ps R prefixes w .exact) (admitted-once t target (ready .limits) R (ready .finite) (ready .plus))
 
-    all-found : (ps : List ListPoint) (S : Float) (m : ℕ) → walk ≡ ended ps S m → length ps ≡ length A
-    all-found ps S m e =
-        sym (vectors-length ps)
-        ∙ same-length (admitted t target (handedOn R)) (vectorsOf ps) A (list-exact t target (within q) R finite-radius plus-radius budget ps S m e .exact) v
+      go : (b : Bool) → ltb places (length ps) ≡ b → Ends
+      go true h = fills enough (subst (λ (k : ℕ). places < k) all (ltb-true places (length ps) h)) (is ∙ ap (endOfList places) w ∙ list-full places ps R prefixes h ∙ ap (λ (k : ℕ). refused (listFull k)) all)
+      go false h = lists enough (subst (λ (k : ℕ). k ≤ places) all (ltb-false places (length ps) h)) _ (is ∙ ap (endOfList places) w ∙ list-sorted places ps R prefixes h)
 
-    pub list-call-full : (k : ℕ) → (list t target distances points R budget ≡ refused (listFull k)) ↔ ((length L ≤ budget) × (k ≡ length A) × (places < length A))
-    list-call-full k = (there, back)
-      where
-        by-walk : (w : Walked (List ListPoint)) → walk ≡ w → endOfList places w ≡ refused (listFull k) → (length L ≤ budget) × (k ≡ length A) × (places < length A)
-        by-walk (exhausted m S) e r = absurd (number-clash (ap (λ (x : Refusal). x .number) (refused-same (sym (list-exhausted places m S) ∙ r))))
-        by-walk (ended ps S m) e r = by-room (ltb places (length ps)) refl
-          where
-            by-room : (b : Bool) → ltb places (length ps) ≡ b → (length L ≤ budget) × (k ≡ length A) × (places < length A)
-            by-room true h =
-                let same : length ps ≡ k = full-same (refused-same (sym (list-full places ps S m h) ∙ r)) in
-                let all = all-found ps S m e in
-                (list-ends-exactly t target (within q) R finite-radius plus-radius budget L o .0 (ps, S, m, e), sym same ∙ all, omega (arith, ltb-true places (length ps) h, all))
-            by-room false h = absurd (found≢refused (sym (list-sorted places ps S m h) ∙ r))
+  pub list-numbers : ListNumbers t target R budget places answer
+  list-numbers =
+      record {
+        prefixes = prefixes;
+        opened-number = number-of-prefixes ready;
+        vectors = vectors;
+        admitted-number = record { all = admittedVectors t target R; once = admitted-once t target (ready .limits) R (ready .finite) (ready .plus); long = refl };
+        gives-list = (λ x. room-there e (x .0) (x .1), room-back e);
+        gives-18 = λ k. (full-there e k, full-back e k);
+        gives-15 = λ m S. (spent-there e m S, spent-back e m S);
+      }
+    where
+      e : Ends
+      e = ends (list-agrees-prefixes t target R budget)
 
-        there : list t target distances points R budget ≡ refused (listFull k) → (length L ≤ budget) × (k ≡ length A) × (places < length A)
-        there r = by-walk walk refl (sym (list-checked t target distances points R budget q) ∙ r)
+      room-there : Ends → (a : ListAnswer) → answer ≡ found a → (prefixes ≤ budget) × (vectors ≤ places)
+      room-there (spends h q) a r = absurd (found≢refused (sym r ∙ q))
+      room-there (fills h l q) a r = absurd (found≢refused (sym r ∙ q))
+      room-there (lists h l b q) a r = (h, l)
 
-        back : (length L ≤ budget) × (k ≡ length A) × (places < length A) → list t target distances points R budget ≡ refused (listFull k)
-        back (h, same, more) =
-            let w = list-ends-exactly t target (within q) R finite-radius plus-radius budget L o .1 h in
-            let all = all-found (w .0) (w .1) (w .2) (w .3) in
-            list-ends t target distances points R budget q .full (w .0) (w .1) (w .2) (w .3) (omega (arith, all, more)) .0
-            ∙ ap (λ (j : ℕ). refused (listFull j)) (all ∙ sym same)
+      room-back : Ends → (prefixes ≤ budget) × (vectors ≤ places) → (a : ListAnswer) × (answer ≡ found a)
+      room-back (spends h q) (i, j) = absurd (not-le-of-lt h i)
+      room-back (fills h l q) (i, j) = absurd (not-le-of-lt l j)
+      room-back (lists h l a q) (i, j) = (a, q)
+
+      full-there : Ends → (k : ℕ) → answer ≡ refused (listFull k) → (prefixes ≤ budget) × (places < vectors) × (k ≡ vectors)
+      full-there (spends h q) k r = absurd (not-both (refused-same (sym q ∙ r)))
+      full-there (fills h l q) k r = (h, l, full-same (refused-same (sym q ∙ r)))
+      full-there (lists h l a q) k r = absurd (found≢refused (sym q ∙ r))
+
+      full-back : Ends → (k : ℕ) → (prefixes ≤ budget) × (places < vectors) × (k ≡ vectors) → answer ≡ refused (listFull k)
+      full-back (spends h q) k (i, j, s) = absurd (not-le-of-lt h i)
+      full-back (fills h l q) k (i, j, s) = q ∙ ap (λ (n : ℕ). refused (listFull n)) (sym s)
+      full-back (lists h l a q) k (i, j, s) = absurd (not-le-of-lt j l)
+
+      spent-there : Ends → (m : ℕ) (S : Float) → answer ≡ refused (budgetExhausted m S) → (budget < prefixes) × (m ≡ budget) × (S ≡ R)
+      spent-there (spends h q) m S r = let s = spent-same (refused-same (sym q ∙ r)) in (h, s .0, s .1)
+      spent-there (fills h l q) m S r = absurd (not-both (refused-same (sym r ∙ q)))
+      spent-there (lists h l a q) m S r = absurd (found≢refused (sym q ∙ r))
+
+      spent-back : Ends → (m : ℕ) (S : Float) → (budget < prefixes) × (m ≡ budget) × (S ≡ R) → answer ≡ refused (budgetExhausted m S)
+      spent-back (spends h q) m S (i, j, s) = q ∙ ap (λ (n : ℕ). refused (budgetExhausted n R)) (sym j) ∙ ap (λ (x : Float). refused (budgetExhausted m x)) (sym s)
+      spent-back (fills h l q) m S (i, j, s) = absurd (not-le-of-lt i h)
+      spent-back (lists h l a q) m S (i, j, s) = absurd (not-le-of-lt i h)

@@ -1,8 +1,7 @@
--- The theorem of `list`: a walk that ends has found exactly the admitted vectors, each once and with its own distance, and has counted as many nodes as there are opened prefixes; it ends exactly when the budget is at least that number. Assumes nothing.
+-- The theorem of `list`: a walk that ends has found every admitted vector once, nothing else, each with its own distance, and has counted as many nodes as there are opened prefixes; it ends if the budget is at least that number, and is exhausted otherwise. Assumes nothing.
 use mathlib.Core.Path.{_≡_, refl, sym, ap, _∙_, subst}
-use mathlib.Core.Logic.{_↔_}
-use Prim.Native.Nat.{ℕ, zero, suc, _+_, _≤_}
-use native.Mathlib.Nat.{le-trans, le-of-eq, zero-add, add-zero, add-assoc, not-le-of-lt}
+use Prim.Native.Nat.{ℕ, zero, suc, _+_}
+use native.Mathlib.Nat.{zero-add, add-zero, add-assoc}
 use native.Mathlib.Omega.{arith}
 use mathlib.Core.Bool.{Bool, true, false, not, cond}
 use mathlib.Core.List.{List, [], _∷_, _++_}
@@ -10,24 +9,23 @@ use lib.Dec.{T}
 use lib.ListN.{length, length-append}
 use lib.IntN.{ℤ}
 use lib.Ieee.{Float, binary64, add, le, lt}
-use Rattle.rounding.proofs.Value.{Finite}
+use Rattle.rounding.specs.Kinds.{Finite}
 use Rattle.definitions.specs.Table.{Table, dimension, weight, plusZero}
 use Rattle.definitions.specs.Distance.{center, term, partial, distance}
-use Rattle.definitions.specs.Admitted.{secondTest, opened}
-use Rattle.definitions.specs.Walk.{ended, exhausted}
+use Rattle.definitions.specs.Admitted.{secondTest}
+use Rattle.definitions.specs.Walk.{ended}
 use Rattle.definitions.specs.Listing.{ListPoint, listWalk}
 use Rattle.definitions.proofs.Distances.{partial-nil, partial-step}
 use Rattle.definitions.proofs.Admissions.{secondTest-is}
-use Rattle.theorems.specs.Counting.{sameVector, tally, count, EachOnce}
+use Rattle.theorems.specs.Counting.{sameVector, tally, count}
 use Rattle.theorems.specs.Unbudgeted.{Progress, afterChild, allChildren, walkAll, added, listAll}
 use Rattle.theorems.specs.Prefixes.{joined, levelChildren, openedBelow, admittedBelow, openedPrefixes, admittedVectors}
 use Rattle.theorems.specs.Ordered.{vectorsOf, OwnDistances}
 use Rattle.theorems.specs.Answers.{Listed}
 use Rattle.theorems.proofs.Limits.{Limits}
-use Rattle.theorems.proofs.Counts.{same-length}
 use Rattle.theorems.proofs.Prefixes.{openedFrom, admittedFrom, opened-leaf, opened-level, admitted-leaf, admitted-level, opened-once, admitted-once}
-use Rattle.theorems.proofs.Unbudgeted.{all-nil, all-cons, walkAll-leaf, walkAll-level}
-use Rattle.theorems.proofs.Budget.{agrees-ended, agrees-exhausted, agrees-enough, list-agrees}
+use Rattle.theorems.proofs.Unbudgeted.{Agrees, all-nil, all-cons, walkAll-leaf, walkAll-level}
+use Rattle.theorems.proofs.Budget.{agrees-ended, list-agrees}
 
 -- ---- what the walk without a budget comes to
 module _ (t : Table) (target : List Float) (R : Float) where
@@ -100,40 +98,16 @@ module _ (t : Table) (target : List Float) (R : Float) where
   own-added (x ∷ xs) found o = own-added xs (record { distance = distance t target x; point = x } ∷ found) (refl, o)
 
 module _ (t : Table) (target : List Float) (limits : Limits t target) (R : Float) (finite : Finite binary64 R) (plus : T (not (lt R plusZero))) where
-  opened-length : (L : List (List ℤ)) → EachOnce (opened t target R) L → length L ≡ length (openedPrefixes t target R)
-  opened-length L o = same-length (opened t target R) L (openedPrefixes t target R) o (opened-once t target limits R finite plus)
-
   pub list-exact : (budget : ℕ) (found : List ListPoint) (S : Float) (m : ℕ) → listWalk t target R budget ≡ ended found S m → Listed t target R found m
   list-exact budget found S m e =
       let g = agrees-ended (listAll t target R) budget (listWalk t target R budget) (list-agrees t target R budget) found S m e in
       let k : found ≡ addAll t target R (admittedVectors t target R) [] = sym (g .1) ∙ ap (λ (x : Progress (List ListPoint)). x .kept) (listAll-is t target R) in
-      let n : m ≡ length (openedPrefixes t target R) = sym (g .3) ∙ ap (λ (x : Progress (List ListPoint)). x .nodes) (listAll-is t target R) in
       record {
         exact = λ x. ap (λ (l : List ListPoint). count x (vectorsOf l)) k ∙ count-added t target R x (admittedVectors t target R) [] ∙ add-zero (count x (admittedVectors t target R)) ∙ admitted-once t target limits R finite plus x;
         own = subst (OwnDistances t target) (sym k) (own-added t target R (admittedVectors t target R) [] tt);
-        nodes = λ L o. opened-length L o ∙ sym n;
+        nodes = record { all = openedPrefixes t target R; once = opened-once t target limits R finite plus; long = sym (ap (λ (x : Progress (List ListPoint)). x .nodes) (listAll-is t target R)) ∙ g .3 };
       }
 
-  -- it ends exactly when the budget is at least the number of opened prefixes
-  pub list-ends-exactly : (budget : ℕ) (L : List (List ℤ)) → EachOnce (opened t target R) L → ((found : List ListPoint) × (S : Float) × (m : ℕ) × (listWalk t target R budget ≡ ended found S m)) ↔ (length L ≤ budget)
-  list-ends-exactly budget L o = (there, back)
-    where
-      nodes-is : listAll t target R .nodes ≡ length (openedPrefixes t target R)
-      nodes-is = ap (λ (x : Progress (List ListPoint)). x .nodes) (listAll-is t target R)
-
-      there : (found : List ListPoint) × (S : Float) × (m : ℕ) × (listWalk t target R budget ≡ ended found S m) → length L ≤ budget
-      there (found, S, m, e) = le-trans (le-of-eq (opened-length L o ∙ sym nodes-is)) (agrees-ended (listAll t target R) budget (listWalk t target R budget) (list-agrees t target R budget) found S m e .0)
-
-      back : length L ≤ budget → (found : List ListPoint) × (S : Float) × (m : ℕ) × (listWalk t target R budget ≡ ended found S m)
-      back h = (
-        listAll t target R .kept,
-        listAll t target R .standing,
-        listAll t target R .nodes,
-        agrees-enough (listAll t target R) budget (listWalk t target R budget) (list-agrees t target R budget) (le-trans (le-of-eq (nodes-is ∙ sym (opened-length L o))) h),
-      )
-
-  -- so a budget of at least that number is never exhausted
-  pub list-enough : (budget : ℕ) (L : List (List ℤ)) → EachOnce (opened t target R) L → length L ≤ budget → (m : ℕ) (S : Float) → listWalk t target R budget ≡ exhausted m S → ⊥
-  list-enough budget L o h m S e =
-      not-le-of-lt (agrees-exhausted (listAll t target R) budget (listWalk t target R budget) (list-agrees t target R budget) m S e .0)
-      (le-trans (le-of-eq (ap (λ (x : Progress (List ListPoint)). x .nodes) (listAll-is t target R) ∙ sym (opened-length L o))) h)
+-- it ends if the budget has a node for every opened prefix, and is exhausted otherwise
+pub list-agrees-prefixes : (t : Table) (target : List Float) (R : Float) (budget : ℕ) → Agrees budget (stands t target R (addAll t target R (admittedVectors t target R) []) (length (openedPrefixes t target R))) (listWalk t target R budget)
+list-agrees-prefixes t target R budget = subst (λ (f : Progress (List ListPoint)). Agrees budget f (listWalk t target R budget)) (listAll-is t target R) (list-agrees t target R budget)

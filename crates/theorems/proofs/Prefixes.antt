@@ -11,9 +11,8 @@ use lib.IntN.{ℤ}
 use lib.Ieee.{Float, binary64, sub, le, lt}
 use lib.Ieee.Fits.{and-i, and-l, and-r}
 use Rattle.rounding.specs.Integers.{isI64}
-use Rattle.rounding.proofs.Value.{Finite}
-use Rattle.rounding.proofs.Subtraction.{sub-number}
-use Rattle.rounding.proofs.NonNegative.{finite-below}
+use Rattle.rounding.specs.Kinds.{Finite}
+use Rattle.rounding.proofs.Interface.{sub-number, finite-below}
 use Rattle.definitions.specs.Table.{Table, dimension, weight, plusZero}
 use Rattle.definitions.specs.Distance.{center, partial}
 use Rattle.definitions.specs.Admitted.{allI64, firstTest, secondTest, passes, admitted, opened}

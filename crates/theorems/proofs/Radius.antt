@@ -12,7 +12,8 @@ use lib.IntN.{ℤ}
 use lib.Ieee.{Float, binary64, lt}
 use lib.Ieee.Fits.{and-l}
 use Rattle.rounding.specs.Integers.{isI64}
-use Rattle.rounding.proofs.Value.{Finite, ord}
+use Rattle.rounding.specs.Kinds.{Finite}
+use Rattle.rounding.proofs.Interface.{ord}
 use Rattle.definitions.specs.Table.{Table, dimension, plusZero}
 use Rattle.definitions.specs.Distance.{center, partial, distance}
 use Rattle.definitions.specs.Admitted.{allI64, firstTest, secondTest, passes}

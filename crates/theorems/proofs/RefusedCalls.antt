@@ -1,111 +1,101 @@
--- Demand 1 over the calls: a refusal has the least number that fits; an input that none of 1 to 14 fits gets an answer or one of 15 to 18; a refusal leaves the slices. For all inputs. Assumes nothing.
-use mathlib.Core.Path.{_≡_, refl, sym, ap, _∙_}
+-- Promise 1 of any call, for all inputs: the first check that fits refuses, an input that none fits gets an answer or one of the walk's own refusals, and a refusal leaves the slices. Assumes nothing.
+use mathlib.Core.Path.{_≡_, refl, sym, ap, _∙_, subst}
 use mathlib.Core.Bool.{Bool, true, false}
 use mathlib.Core.List.{List}
-use mathlib.Core.Logic.{_⊎_, inl, inr}
-use Prim.Native.Nat.{ℕ}
+use mathlib.Core.Logic.{_⊎_, inl, inr, ⊎-elim}
+use Prim.Native.Nat.{ℕ, _≤_, _<_}
+use native.Mathlib.Omega.{arith}
 use lib.Dec.{ltb}
 use lib.ListN.{length}
 use lib.IntN.{ℤ}
 use lib.Ieee.{Float}
-use Rattle.definitions.specs.Table.{Table, dimension}
 use Rattle.definitions.specs.Walk.{Walked, ended, exhausted}
-use Rattle.definitions.specs.Nearest.{Best, no-best, best, nearestWalk}
-use Rattle.definitions.specs.Listing.{ListPoint, listWalk}
-use Rattle.definitions.specs.Seeds.{widened}
-use Rattle.definitions.specs.Refusals.{Refusal, outsideRadius, noSeed}
-use Rattle.definitions.specs.Checks.{Verdict, pass, refuse, firstRefusal, handedOn}
-use Rattle.definitions.specs.Calls.{Answer, found, refused, after, NearestPoint, endOfNearest, checksOfNearest, nearest, widenedSearch, checksOfSeeded, nearestSeeded, mlRadius, checksOfMl, nearestMl, nearestOutput, ListAnswer, endOfList, checksOfList, list, listDistances, listPoints, checksOfRound, round, roundOutput, checksOfPlane, plane, planeOutput, planeCoefficients}
-use Rattle.definitions.proofs.Answers.{after-pass, after-refuse, end-exhausted, end-nothing, end-point, output-refused, nearest-checks-are, nearest-is, widened-search-is, seeded-checks-are, seeded-is, ml-checks-are, ml-is, list-exhausted, list-full, list-sorted, distances-refused, points-refused, list-checks-are, list-is, round-is, plane-is}
-use Rattle.definitions.proofs.Passed.{round-refused, plane-refused}
-use Rattle.theorems.specs.Answers.{Under, Demand1}
-use Rattle.theorems.specs.Refusals.{LeastFits, NoneFits}
-use Rattle.theorems.proofs.FirstRefusal.{Rising, least-fits, none-passes, passes-none, nearest-rises, seeded-rises, ml-rises, list-rises, round-rises, plane-rises}
-use Rattle.theorems.proofs.Endings.{found≢refused, refused-same}
+use Rattle.definitions.specs.Nearest.{Best, no-best, best}
+use Rattle.definitions.specs.Listing.{ListPoint}
+use Rattle.definitions.specs.Refusals.{Refusal}
+use Rattle.definitions.specs.Checks.{Verdict, refuse, firstRefusal}
+use Rattle.definitions.specs.Calls.{Answer, found, refused, after, NearestPoint, endOfNearest, nearestOutput, ListAnswer, endOfList, listDistances, listPoints}
+use Rattle.definitions.proofs.Answers.{after-pass, after-refuse, found≢refused, refused-same, end-exhausted, end-nothing, end-point, output-refused, list-exhausted, list-full, list-sorted, distances-refused, points-refused}
+use Rattle.definitions.proofs.Verdicts.{refuse≢pass}
+use Rattle.theorems.specs.Refusals.{Fits, NoneFits, FirstFits}
+use Rattle.theorems.specs.Answers.{Under, Demand1, VerdictDemand1}
+use Rattle.theorems.proofs.FirstRefusal.{Decision, decision, first-fits, first-refuses}
 
-module _ {A : Type 0} (checks : List Verdict) (rises : Rising 0 checks) (j k : ℕ) (end : Answer A) (ends : (e : Refusal) → end ≡ refused e → Under j k e) where
-  by-verdict : (v : Verdict) → firstRefusal checks ≡ v → (e : Refusal) → after (firstRefusal checks) end ≡ refused e → LeastFits checks (e .number) ⊎ (NoneFits checks × Under j k e)
-  by-verdict pass q e r = inr (passes-none checks q, ends e (sym (after-pass (firstRefusal checks) end q) ∙ r))
-  by-verdict (refuse d) q e r =
-      let same : d ≡ e = refused-same (sym (after-refuse (firstRefusal checks) end d q) ∙ r) in
-      inl (least-fits checks rises e (q ∙ ap refuse same))
+-- ---- any call with these checks, all of smaller numbers than the walk's own refusals
+end-answers : {A : Type 0} {j k : ℕ} {end answer : Answer A} → ((e : Refusal) → end ≡ refused e → Under j k e) → answer ≡ end → (x : Answer A) → end ≡ x → ((a : A) × (answer ≡ found a)) ⊎ ((e : Refusal) × (answer ≡ refused e) × Under j k e)
+end-answers own is (found a) q = inl (a, is ∙ q)
+end-answers own is (refused e) q = inr (e, is ∙ q, own e q)
 
-  by-end : (x : Answer A) → end ≡ x → (answer : Answer A) → answer ≡ end → ((a : A) × (answer ≡ found a)) ⊎ ((e : Refusal) × (answer ≡ refused e) × Under j k e)
-  by-end (found a) q answer r = inl (a, r ∙ q)
-  by-end (refused e) q answer r = inr (e, r ∙ q, ends e q)
+module _ {A : Type 0} {checks : List Verdict} (below : (e : Refusal) → Fits checks e → e .number < 15) {j k : ℕ} (first : 15 ≤ j) (second : 15 ≤ k) {end answer : Answer A} (own : (e : Refusal) → end ≡ refused e → Under j k e) (is : answer ≡ after (firstRefusal checks) end) where
+  not-own : (e : Refusal) → Fits checks e → Under j k e → ⊥
+  not-own e m (inl q) = let l = below e m in omega (arith, l, q, first)
+  not-own e m (inr q) = let l = below e m in omega (arith, l, q, second)
 
-  demand-1 : (answer : Answer A) → answer ≡ after (firstRefusal checks) end → Demand1 checks j k answer
-  demand-1 answer is =
+  refused-by : (e : Refusal) → FirstFits checks e → (answer ≡ refused e) × (Under j k e → ⊥)
+  refused-by e f = (is ∙ after-refuse (firstRefusal checks) end e (first-refuses f), not-own e (first-fits f))
+
+  pub demand-1 : {Unchanged : Type 0} → ((e : Refusal) → answer ≡ refused e → Unchanged) → Decision checks → Demand1 checks j k answer Unchanged
+  demand-1 unchanged (inl (d, f, q)) =
       record {
-        refuses = λ e r. by-verdict (firstRefusal checks) refl e (sym is ∙ r);
-        answers = λ none. by-end end refl answer (is ∙ after-pass (firstRefusal checks) end (none-passes checks none));
+        refuses = λ e. (refused-by e, λ r. subst (FirstFits checks) (refused-same (sym (refused-by d f .0) ∙ r .0)) f);
+        answers = (λ none. absurd (none d (first-fits f)), λ r. absurd (clash r));
+        unchanged = unchanged;
+      }
+    where
+      clash : ((a : A) × (answer ≡ found a)) ⊎ ((e : Refusal) × (answer ≡ refused e) × Under j k e) → ⊥
+      clash (inl (a, r)) = found≢refused (sym r ∙ refused-by d f .0)
+      clash (inr (e, r, u)) = not-own d (first-fits f) (subst (Under j k) (refused-same (sym r ∙ refused-by d f .0)) u)
+  demand-1 unchanged (inr (none, q)) =
+      let a = is ∙ after-pass (firstRefusal checks) end q in
+      record {
+        refuses = λ e. (refused-by e, λ r. absurd (r .1 (own e (sym a ∙ r .0))));
+        answers = (λ same. end-answers own a end refl, λ r. none);
+        unchanged = unchanged;
       }
 
--- how the walks end a call
-nearest-ends : (none : Refusal) (w : Walked Best) (e : Refusal) → endOfNearest none w ≡ refused e → Under 15 (none .number) e
-nearest-ends none (exhausted m R) e q = inl (ap (λ (r : Refusal). r .number) (refused-same (sym q ∙ end-exhausted none m R)))
-nearest-ends none (ended no-best R m) e q = inr (ap (λ (r : Refusal). r .number) (refused-same (sym q ∙ end-nothing none R m)))
-nearest-ends none (ended (best zs) R m) e q = absurd (found≢refused (sym (end-point none zs R m) ∙ q))
+  -- a refusal under 15 or above is the walk's own
+  pub own-refusal : (e : Refusal) → answer ≡ refused e → 15 ≤ e .number → NoneFits checks
+  own-refusal e r h = ⊎-elim (λ some. absurd (clash (some .0) (some .1))) (λ other. other .0) (decision checks)
+    where
+      clash : (d : Refusal) → FirstFits checks d → ⊥
+      clash d f =
+          let same : d .number ≡ e .number = ap (λ (x : Refusal). x .number) (refused-same (sym (refused-by d f .0) ∙ r)) in
+          omega (arith, below d (first-fits f), same, h)
 
-list-ends : (places : ℕ) (w : Walked (List ListPoint)) (e : Refusal) → endOfList places w ≡ refused e → Under 15 18 e
-list-ends places (exhausted m R) e q = inl (ap (λ (r : Refusal). r .number) (refused-same (sym q ∙ list-exhausted places m R)))
-list-ends places (ended ps R m) e q = go (ltb places (length ps)) refl
+refuse-same : {d e : Refusal} → refuse d ≡ refuse e → d ≡ e
+refuse-same p = cc
+
+pub verdict-demand-1 : {checks : List Verdict} {verdict : Verdict} {Unchanged : Type 0} → verdict ≡ firstRefusal checks → ((e : Refusal) → verdict ≡ refuse e → Unchanged) → Decision checks → VerdictDemand1 checks verdict Unchanged
+verdict-demand-1 {checks = checks} is unchanged (inl (d, f, q)) =
+    record {
+      refuses = λ e. (λ g. is ∙ first-refuses g, λ r. subst (FirstFits checks) (refuse-same (sym (is ∙ q) ∙ r)) f);
+      passes = (λ none. absurd (none d (first-fits f)), λ r. absurd (refuse≢pass (sym (is ∙ q) ∙ r)));
+      unchanged = unchanged;
+    }
+verdict-demand-1 is unchanged (inr (none, q)) =
+    record {
+      refuses = λ e. (λ g. is ∙ first-refuses g, λ r. absurd (refuse≢pass (sym r ∙ is ∙ q)));
+      passes = (λ same. is ∙ q, λ r. none);
+      unchanged = unchanged;
+    }
+
+-- a refusal leaves the slices
+pub output-unchanged : (answer : Answer NearestPoint) (out : List ℤ) (e : Refusal) → answer ≡ refused e → nearestOutput answer out ≡ out
+output-unchanged answer out e q = ap (λ (a : Answer NearestPoint). nearestOutput a out) q ∙ output-refused e out
+
+pub slices-unchanged : (answer : Answer ListAnswer) (distances : List Float) (points : List ℤ) (e : Refusal) → answer ≡ refused e → (listDistances answer distances ≡ distances) × (listPoints answer points ≡ points)
+slices-unchanged answer distances points e q = (ap (λ (a : Answer ListAnswer). listDistances a distances) q ∙ distances-refused e distances, ap (λ (a : Answer ListAnswer). listPoints a points) q ∙ points-refused e points)
+
+-- the search's own refusals: under which numbers a walk ends a call
+pub nearest-own-numbers : (none : Refusal) (w : Walked Best) (e : Refusal) → endOfNearest none w ≡ refused e → Under 15 (none .number) e
+nearest-own-numbers none (exhausted m R) e q = inl (ap (λ (r : Refusal). r .number) (refused-same (sym q ∙ end-exhausted none m R)))
+nearest-own-numbers none (ended no-best R m) e q = inr (ap (λ (r : Refusal). r .number) (refused-same (sym q ∙ end-nothing none R m)))
+nearest-own-numbers none (ended (best zs) R m) e q = absurd (found≢refused (sym (end-point none zs R m) ∙ q))
+
+pub list-own-numbers : (places : ℕ) (w : Walked (List ListPoint)) (e : Refusal) → endOfList places w ≡ refused e → Under 15 18 e
+list-own-numbers places (exhausted m R) e q = inl (ap (λ (r : Refusal). r .number) (refused-same (sym q ∙ list-exhausted places m R)))
+list-own-numbers places (ended ps R m) e q = go (ltb places (length ps)) refl
   where
     go : (b : Bool) → ltb places (length ps) ≡ b → Under 15 18 e
     go true full = inr (ap (λ (r : Refusal). r .number) (refused-same (sym q ∙ list-full places ps R m full)))
     go false room = absurd (found≢refused (sym (list-sorted places ps R m room) ∙ q))
-
--- ---- nearest
-module _ (t : Table) (target : List Float) (out : List ℤ) (R : Float) (budget : ℕ) where
-  pub nearest-demand-1 : Demand1 (checksOfNearest t target out R budget) 15 16 (nearest t target out R budget)
-  nearest-demand-1 =
-      let end = endOfNearest (outsideRadius (handedOn R)) (nearestWalk t target (handedOn R) budget) in
-      demand-1 (checksOfNearest t target out R budget) (nearest-rises t target out R budget) 15 16 end (nearest-ends (outsideRadius (handedOn R)) (nearestWalk t target (handedOn R) budget)) (nearest t target out R budget) (nearest-is t target out R budget ∙ ap (λ (v : Verdict). after v end) (nearest-checks-are t target out R budget))
-
--- ---- nearest_seeded and nearest_ml
-module _ (t : Table) (target : List Float) (out candidate : List ℤ) (R : Float) (budget : ℕ) where
-  pub seeded-demand-1 : Demand1 (checksOfSeeded t target out candidate R budget) 15 17 (nearestSeeded t target out candidate R budget)
-  seeded-demand-1 =
-      let wide = widened (dimension t) (handedOn R) in
-      demand-1 (checksOfSeeded t target out candidate R budget) (seeded-rises t target out candidate R budget) 15 17 (widenedSearch t target (handedOn R) budget) (λ e q. nearest-ends (noSeed wide) (nearestWalk t target wide budget) e (sym (widened-search-is t target (handedOn R) budget) ∙ q)) (nearestSeeded t target out candidate R budget) (seeded-is t target out candidate R budget ∙ ap (λ (v : Verdict). after v (widenedSearch t target (handedOn R) budget)) (seeded-checks-are t target out candidate R budget))
-
-module _ (t : Table) (target : List Float) (out : List ℤ) (budget : ℕ) where
-  pub ml-demand-1 : Demand1 (checksOfMl t target out budget) 15 17 (nearestMl t target out budget)
-  ml-demand-1 =
-      let R = mlRadius t target in
-      let wide = widened (dimension t) R in
-      demand-1 (checksOfMl t target out budget) (ml-rises t target out budget) 15 17 (widenedSearch t target R budget) (λ e q. nearest-ends (noSeed wide) (nearestWalk t target wide budget) e (sym (widened-search-is t target R budget) ∙ q)) (nearestMl t target out budget) (ml-is t target out budget ∙ ap (λ (v : Verdict). after v (widenedSearch t target R budget)) (ml-checks-are t target out budget))
-
--- a refusal of any of the three leaves the output slice as it was
-pub search-leaves : (answer : Answer NearestPoint) (out : List ℤ) (e : Refusal) → answer ≡ refused e → nearestOutput answer out ≡ out
-search-leaves answer out e q = ap (λ (x : Answer NearestPoint). nearestOutput x out) q ∙ output-refused e out
-
--- ---- list
-module _ (t : Table) (target distances : List Float) (points : List ℤ) (R : Float) (budget : ℕ) where
-  pub list-demand-1 : Demand1 (checksOfList t target distances points R budget) 15 18 (list t target distances points R budget)
-  list-demand-1 =
-      let end = endOfList (length distances) (listWalk t target (handedOn R) budget) in
-      demand-1 (checksOfList t target distances points R budget) (list-rises t target distances points R budget) 15 18 end (list-ends (length distances) (listWalk t target (handedOn R) budget)) (list t target distances points R budget) (list-is t target distances points R budget ∙ ap (λ (v : Verdict). after v end) (list-checks-are t target distances points R budget))
-
-pub list-leaves : (answer : Answer ListAnswer) (distances : List Float) (points : List ℤ) (e : Refusal) → answer ≡ refused e → (listDistances answer distances ≡ distances) × (listPoints answer points ≡ points)
-list-leaves answer distances points e q = (ap (λ (x : Answer ListAnswer). listDistances x distances) q ∙ distances-refused e distances, ap (λ (x : Answer ListAnswer). listPoints x points) q ∙ points-refused e points)
-
--- ---- round and nearest_plane: a refusal has the least number that fits and leaves the slices; where none fits they pass
-module _ (coefficients : List Float) (out : List ℤ) where
-  pub round-least : (e : Refusal) → round coefficients out ≡ refuse e → LeastFits (checksOfRound coefficients out) (e .number) × (roundOutput (round coefficients out) coefficients out ≡ out)
-  round-least e q = (least-fits (checksOfRound coefficients out) (round-rises coefficients out) e (sym (round-is coefficients out) ∙ q), round-refused coefficients out (round coefficients out) q)
-
-  pub round-passes : NoneFits (checksOfRound coefficients out) → round coefficients out ≡ pass
-  round-passes none = round-is coefficients out ∙ none-passes (checksOfRound coefficients out) none
-
-  module _ (t : Table) where
-    pub plane-least : (e : Refusal) → plane t coefficients out ≡ refuse e →
-        LeastFits (checksOfPlane t coefficients out) (e .number)
-        × (planeOutput (plane t coefficients out) t coefficients out ≡ out)
-        × (planeCoefficients (plane t coefficients out) t coefficients ≡ coefficients)
-    plane-least e q =
-        let left = plane-refused coefficients out t (plane t coefficients out) q in
-        (least-fits (checksOfPlane t coefficients out) (plane-rises t coefficients out) e (sym (plane-is t coefficients out) ∙ q), left .0, left .1)
-
-    pub plane-passes : NoneFits (checksOfPlane t coefficients out) → plane t coefficients out ≡ pass
-    plane-passes none = plane-is t coefficients out ∙ none-passes (checksOfPlane t coefficients out) none

@@ -1,17 +1,16 @@
--- Sorting changes only the order of the points, and puts those of a list walk strictly in the list's order: "by distance and then coordinates". Assumes nothing.
+-- Sorting changes only the order of the points, and puts those of a list walk strictly in the list's order. Assumes nothing.
 use mathlib.Core.Path.{_≡_, refl, sym, ap, _∙_, subst}
 use mathlib.Core.Logic.{_⊎_, inl, inr}
-use Prim.Native.Nat.{ℕ, suc, _+_, _≤_, _<_}
+use Prim.Native.Nat.{ℕ, _+_, _≤_, _<_}
 use native.Mathlib.Nat.{add-left-comm, le-trans, le-of-eq, le-add-left, suc-ne-zero}
 use native.Mathlib.Omega.{arith}
 use mathlib.Core.Bool.{Bool, true, false, not, cond}
 use mathlib.Core.List.{List, [], _∷_}
 use lib.Dec.{T}
-use lib.ListN.{length}
 use lib.IntN.{ℤ}
 use lib.Ieee.{Float, binary64, lt}
 use lib.Ieee.Fits.{and-l}
-use Rattle.rounding.proofs.Value.{NonNegative, Finite}
+use Rattle.rounding.specs.Kinds.{NonNegative, Finite}
 use Rattle.definitions.specs.Table.{Table, dimension, plusZero}
 use Rattle.definitions.specs.Distance.{distance}
 use Rattle.definitions.specs.Admitted.{isVector, passes, admitted}
@@ -61,18 +60,6 @@ insert-count x a (b ∷ bs) = ap (λ (l : List ListPoint). count x (vectorsOf l)
 pub sorted-count : (x : List ℤ) (ps : List ListPoint) → count x (vectorsOf (sorted ps)) ≡ count x (vectorsOf ps)
 sorted-count x [] = ap (λ (l : List ListPoint). count x (vectorsOf l)) sorted-nil
 sorted-count x (a ∷ ps) = ap (λ (l : List ListPoint). count x (vectorsOf l)) (sorted-cons a ps) ∙ insert-count x a (sorted ps) ∙ ap (λ (k : ℕ). tally (sameVector x (a .point)) + k) (sorted-count x ps)
-
-insert-length : (a : ListPoint) (bs : List ListPoint) → length (insert a bs) ≡ suc (length bs)
-insert-length a [] = ap length (insert-nil a)
-insert-length a (b ∷ bs) = ap length (insert-cons a b bs) ∙ go (listedBefore a b) (insert-length a bs)
-  where
-    go : (y : Bool) → length (insert a bs) ≡ suc (length bs) → length (cond y (a ∷ b ∷ bs) (b ∷ insert a bs)) ≡ suc (suc (length bs))
-    go true h = refl
-    go false h = ap suc h
-
-pub sorted-length : (ps : List ListPoint) → length (sorted ps) ≡ length ps
-sorted-length [] = ap length sorted-nil
-sorted-length (a ∷ ps) = ap length (sorted-cons a ps) ∙ insert-length a (sorted ps) ∙ ap suc (sorted-length ps)
 
 -- each point keeps its own distance
 own-every : (t : Table) (target : List Float) (ps : List ListPoint) → OwnDistances t target ps → Every (λ a. a .distance ≡ distance t target (a .point)) ps
@@ -146,7 +133,7 @@ module _ (t : Table) (target : List Float) (limits : Limits t target) (R : Float
       here true t = omega arith
       here false t = absurd t
 
-  -- the list in its order: exactly the admitted vectors, each once, each with its own distance, by distance and then coordinates
+  -- the list in its order: every admitted vector once, nothing else, each with its own distance, strictly in the list's order
   pub list-sorted : (budget : ℕ) (found : List ListPoint) (S : Float) (m : ℕ) → listWalk t target R budget ≡ ended found S m → Listed t target R (sorted found) m × StrictlyOrdered (sorted found)
   list-sorted budget found S m e =
       let l = list-exact t target limits R finite plus budget found S m e in (

@@ -1,6 +1,6 @@
 -- Within the limits a term and a partial sum are no NaN and not negative, and a partial sum is no smaller than the one above it.
 -- So a vector whose computed distance is strictly below R is admitted at R, and an admitted one has a distance, at most R. Assumes nothing.
-use mathlib.Core.Path.{_≡_, refl, sym, _∙_, subst}
+use mathlib.Core.Path.{_≡_, sym, _∙_, subst}
 use Prim.Native.Nat.{ℕ, suc, _+_, _≤_, _<_}
 use native.Mathlib.Nat.{lt-of-le-of-lt, add-zero}
 use native.Mathlib.Omega.{arith}
@@ -12,18 +12,14 @@ use lib.IntN.{ℤ}
 use lib.Ieee.{Float, binary64, sub, le, lt}
 use lib.Ieee.Fits.{and-i, and-l, and-r}
 use Rattle.rounding.specs.Integers.{isI64}
-use Rattle.rounding.proofs.Value.{Finite, NonNegative, number, zero-finite, ord, lt→ord, ord→lt, not-lt→le, lt→le}
-use Rattle.rounding.proofs.Term.{term-nonneg}
-use Rattle.rounding.proofs.NonNegative.{add-nonneg, finite-below, remaining-fits}
+use Rattle.rounding.specs.Kinds.{Finite, NonNegative}
+use Rattle.rounding.proofs.Interface.{number, zero-nonneg, ord, lt→ord, ord→lt, not-lt→le, lt→le, term-nonneg, add-nonneg, finite-below, remaining-fits}
 use Rattle.definitions.specs.Table.{Table, dimension, weight, plusZero}
 use Rattle.definitions.specs.Distance.{center, term, partial, distance, hasDistance}
 use Rattle.definitions.specs.Admitted.{allI64, isVector, firstTest, secondTest, passes, admitted}
 use Rattle.definitions.proofs.Distances.{term-is, partial-nil, partial-step, level-is}
 use Rattle.definitions.proofs.Admissions.{allI64-head, allI64-tail, vector-length, vector-all, firstTest-is, secondTest-is, passes-nil, passes-cons, admitted-is}
 use Rattle.theorems.proofs.Limits.{Limits, center-finite}
-
-pub zero-nonneg : NonNegative binary64 plusZero
-zero-nonneg = record { num = number (zero-finite binary64); plus = refl }
 
 module _ (t : Table) (target : List Float) (limits : Limits t target) where
   -- a term is no NaN and not negative
@@ -34,7 +30,7 @@ module _ (t : Table) (target : List Float) (limits : Limits t target) where
 
   -- so is a partial sum, d levels being left
   pub partial-nonneg : (zs : List ℤ) (d : ℕ) → length zs + d ≡ dimension t → T (allI64 zs) → NonNegative binary64 (partial t target zs)
-  partial-nonneg [] d e a = subst (NonNegative binary64) (sym (partial-nil t target)) zero-nonneg
+  partial-nonneg [] d e a = subst (NonNegative binary64) (sym (partial-nil t target)) (zero-nonneg binary64)
   partial-nonneg (z ∷ zs) d e a =
       let s : suc d + length zs ≡ dimension t = omega arith in
       subst (NonNegative binary64) (sym (partial-step t target z zs d s))
@@ -73,7 +69,7 @@ module _ (t : Table) (target : List Float) (limits : Limits t target) where
         (passes-below zs (suc d) (omega arith) b (lt-of-le-of-lt (partial-grows z zs d s i b) h))
         (and-i (firstTest t target R z zs) (secondTest t target R z zs) first second))
 
-    -- "A computed distance strictly below R implies admitted"
+    -- a vector is admitted if its computed distance is strictly below R
     pub below-admitted : (zs : List ℤ) → T (isVector t zs) → T (lt (distance t target zs) R) → T (admitted t target R zs)
     below-admitted zs v l =
         subst T (sym (admitted-is t target R zs))
@@ -83,7 +79,7 @@ module _ (t : Table) (target : List Float) (limits : Limits t target) where
     -- ---- admitted is at most R
     module _ (plus : T (not (lt R plusZero))) where
       pub passes-within : (zs : List ℤ) → T (passes t target R zs) → T (le (partial t target zs) R)
-      passes-within [] h = subst (λ (x : Float). T (le x R)) (sym (partial-nil t target)) (not-lt→le binary64 (number finite) (zero-nonneg .num) plus)
+      passes-within [] h = subst (λ (x : Float). T (le x R)) (sym (partial-nil t target)) (not-lt→le binary64 (number finite) (zero-nonneg binary64 .num) plus)
       passes-within (z ∷ zs) h =
           subst T (secondTest-is t target R z zs)
           (and-r (firstTest t target R z zs) (secondTest t target R z zs)

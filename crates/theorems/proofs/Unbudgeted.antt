@@ -14,7 +14,7 @@ use Rattle.definitions.specs.Walk.{Walked, ended, exhausted, Leaf, Descent, des
 use Rattle.definitions.proofs.Turns.{visit-exhausted, visit-counted, descends, prunes, leaf-ended, walk-leaf, walk-level}
 use Rattle.definitions.proofs.Fuel.{NoFewer, Counting, walk-counts}
 use Rattle.theorems.specs.Children.{children}
-use Rattle.theorems.specs.Unbudgeted.{Progress, Outcome, counted, afterChild, allChildren, walkAll}
+use Rattle.theorems.specs.Unbudgeted.{Progress, Outcome, counted, walkedBelow, afterChild, allChildren, walkAll}
 use Rattle.theorems.proofs.Booleans.{of-true, of-false}
 use Rattle.theorems.proofs.Levels.{tryEach, each-nil, each-exhausted, each-cons, enter-each}
 
@@ -25,7 +25,7 @@ module _ {K : Type 0} (outcome : Outcome K) (centerOf : ℕ → List ℤ → Flo
     unfolding allChildren
     all-nil s = refl
 
-    pub all-cons : (z : ℤ) (cs : List ℤ) (s : Progress K) → allChildren outcome centerOf t down level zs p c (z ∷ cs) s ≡ allChildren outcome centerOf t down level zs p c cs (afterChild outcome centerOf t (le (add binary64 p (term (weight t level) c z)) (s .standing)) down (z ∷ zs) (add binary64 p (term (weight t level) c z)) s)
+    pub all-cons : (z : ℤ) (cs : List ℤ) (s : Progress K) → allChildren outcome centerOf t down level zs p c (z ∷ cs) s ≡ allChildren outcome centerOf t down level zs p c cs (afterChild outcome centerOf t (walkedBelow (add binary64 p (term (weight t level) c z)) s) down (z ∷ zs) (add binary64 p (term (weight t level) c z)) s)
     unfolding allChildren
     all-cons z cs s = refl
 
@@ -47,8 +47,8 @@ module _ {K : Type 0} (outcome : Outcome K) (centerOf : ℕ → List ℤ → Flo
     all-count [] s = le-of-eq (ap (λ (x : Progress K). x .nodes) (sym (all-nil down level zs p c s)))
     all-count (z ∷ cs) s =
         let sum = add binary64 p (term (weight t level) c z) in
-        le-trans (le-suc (s .nodes)) (le-trans (child-counts (le sum (s .standing)) (z ∷ zs) sum s)
-        (le-trans (all-count cs (afterChild outcome centerOf t (le sum (s .standing)) down (z ∷ zs) sum s)) (le-of-eq (ap (λ (x : Progress K). x .nodes) (sym (all-cons down level zs p c z cs s))))))
+        le-trans (le-suc (s .nodes)) (le-trans (child-counts (walkedBelow sum s) (z ∷ zs) sum s)
+        (le-trans (all-count cs (afterChild outcome centerOf t (walkedBelow sum s) down (z ∷ zs) sum s)) (le-of-eq (ap (λ (x : Progress K). x .nodes) (sym (all-cons down level zs p c z cs s))))))
 
   pub walkAll-counts : (d : ℕ) (zs : List ℤ) (p : Float) (s : Progress K) → s .nodes ≤ walkAll outcome centerOf t d zs p s .nodes
   walkAll-counts zero zs p s = le-of-eq (ap (λ (x : Progress K). x .nodes) (sym (walkAll-leaf zs p s)))
@@ -73,23 +73,23 @@ module _ {K : Type 0} (leaf : Leaf K) (outcome : Outcome K) (leaf-is : LeafOf le
       (down : Descent K) (downAll : List ℤ → Float → Progress K → Progress K)
       (more : (ys : List ℤ) (q : Float) (s : Progress K) → s .nodes ≤ downAll ys q s .nodes)
       (agree : (ys : List ℤ) (q : Float) (s : Progress K) → s .nodes ≤ budget → Agrees budget (downAll ys q s) (down ys q (from s))) where
-    visit-agrees : (z : ℤ) (sum : Float) (s : Progress K) → s .nodes ≤ budget → Agrees budget (afterChild outcome centerOf t (le sum (s .standing)) downAll (z ∷ zs) sum s) (visit leaf centerOf t budget (leb budget (s .nodes)) down (z ∷ zs) sum (s .kept) (s .standing) (s .nodes))
+    visit-agrees : (z : ℤ) (sum : Float) (s : Progress K) → s .nodes ≤ budget → Agrees budget (afterChild outcome centerOf t (walkedBelow sum s) downAll (z ∷ zs) sum s) (visit leaf centerOf t budget (leb budget (s .nodes)) down (z ∷ zs) sum (s .kept) (s .standing) (s .nodes))
     visit-agrees z sum s h = go (leb budget (s .nodes)) refl
       where
         descended : suc (s .nodes) ≤ budget → (b : Bool) → Agrees budget (afterChild outcome centerOf t b downAll (z ∷ zs) sum s) (descendIf leaf centerOf t budget b down (z ∷ zs) sum (from (counted s)))
         descended l true = subst (Agrees budget (downAll (z ∷ zs) sum (counted s))) (sym (descends leaf centerOf t budget down (z ∷ zs) sum (from (counted s)))) (agree (z ∷ zs) sum (counted s) l)
         descended l false = inl (l, prunes leaf centerOf t budget down (z ∷ zs) sum (from (counted s)))
 
-        go : (b : Bool) → leb budget (s .nodes) ≡ b → Agrees budget (afterChild outcome centerOf t (le sum (s .standing)) downAll (z ∷ zs) sum s) (visit leaf centerOf t budget b down (z ∷ zs) sum (s .kept) (s .standing) (s .nodes))
+        go : (b : Bool) → leb budget (s .nodes) ≡ b → Agrees budget (afterChild outcome centerOf t (walkedBelow sum s) downAll (z ∷ zs) sum s) (visit leaf centerOf t budget b down (z ∷ zs) sum (s .kept) (s .standing) (s .nodes))
         go true e =
             let same : s .nodes ≡ budget = le-antisymm h (leb→le budget (s .nodes) (of-true e)) in
             inr (
-              lt-of-lt-of-le (le-of-eq (ap suc (sym same))) (child-counts outcome centerOf t downAll more level zs p c (le sum (s .standing)) (z ∷ zs) sum s),
+              lt-of-lt-of-le (le-of-eq (ap suc (sym same))) (child-counts outcome centerOf t downAll more level zs p c (walkedBelow sum s) (z ∷ zs) sum s),
               s .standing,
               visit-exhausted leaf centerOf t budget down (z ∷ zs) sum (s .kept) (s .standing) (s .nodes) ∙ ap (λ (m : ℕ). exhausted m (s .standing)) same,
             )
         go false e =
-            subst (Agrees budget (afterChild outcome centerOf t (le sum (s .standing)) downAll (z ∷ zs) sum s)) (sym (visit-counted leaf centerOf t budget down (z ∷ zs) sum (s .kept) (s .standing) (s .nodes)))
+            subst (Agrees budget (afterChild outcome centerOf t (walkedBelow sum s) downAll (z ∷ zs) sum s)) (sym (visit-counted leaf centerOf t budget down (z ∷ zs) sum (s .kept) (s .standing) (s .nodes)))
             (descended (nleb→lt budget (s .nodes) (of-false e)) (le sum (s .standing)))
 
     each-agrees : (cs : List ℤ) (s : Progress K) → s .nodes ≤ budget → Agrees budget (allChildren outcome centerOf t downAll level zs p c cs s) (tryEach leaf centerOf t budget down level zs p c cs (from s))
@@ -99,8 +99,8 @@ module _ {K : Type 0} (leaf : Leaf K) (outcome : Outcome K) (leaf-is : LeafOf le
     each-agrees (z ∷ cs) s h =
         let sum = add binary64 p (term (weight t level) c z) in
         subst (λ (f : Progress K). Agrees budget f (tryEach leaf centerOf t budget down level zs p c (z ∷ cs) (from s))) (sym (all-cons outcome centerOf t downAll level zs p c z cs s))
-        (subst (Agrees budget (allChildren outcome centerOf t downAll level zs p c cs (afterChild outcome centerOf t (le sum (s .standing)) downAll (z ∷ zs) sum s))) (sym (each-cons leaf centerOf t budget down level zs p c z cs (s .kept) (s .standing) (s .nodes)))
-        (go (afterChild outcome centerOf t (le sum (s .standing)) downAll (z ∷ zs) sum s) (visit leaf centerOf t budget (leb budget (s .nodes)) down (z ∷ zs) sum (s .kept) (s .standing) (s .nodes)) (visit-agrees z sum s h) (λ f l. each-agrees cs f l)))
+        (subst (Agrees budget (allChildren outcome centerOf t downAll level zs p c cs (afterChild outcome centerOf t (walkedBelow sum s) downAll (z ∷ zs) sum s))) (sym (each-cons leaf centerOf t budget down level zs p c z cs (s .kept) (s .standing) (s .nodes)))
+        (go (afterChild outcome centerOf t (walkedBelow sum s) downAll (z ∷ zs) sum s) (visit leaf centerOf t budget (leb budget (s .nodes)) down (z ∷ zs) sum (s .kept) (s .standing) (s .nodes)) (visit-agrees z sum s h) (λ f l. each-agrees cs f l)))
       where
         go : (f : Progress K) (w : Walked K) → Agrees budget f w → ((f : Progress K) → f .nodes ≤ budget → Agrees budget (allChildren outcome centerOf t downAll level zs p c cs f) (tryEach leaf centerOf t budget down level zs p c cs (from f))) → Agrees budget (allChildren outcome centerOf t downAll level zs p c cs f) (tryEach leaf centerOf t budget down level zs p c cs w)
         go f w (inl a) r = subst (λ (v : Walked K). Agrees budget (allChildren outcome centerOf t downAll level zs p c cs f) (tryEach leaf centerOf t budget down level zs p c cs v)) (sym (a .1)) (r f (a .0))
@@ -110,7 +110,7 @@ module _ {K : Type 0} (leaf : Leaf K) (outcome : Outcome K) (leaf-is : LeafOf le
           ap (tryEach leaf centerOf t budget down level zs p c cs) (a .2) ∙ each-exhausted leaf centerOf t budget down level zs p c cs budget (a .1),
         )
 
-  walk-counting : (d : ℕ) → Counting (walk leaf centerOf t budget d)
+  pub walk-counting : (d : ℕ) → Counting (walk leaf centerOf t budget d)
   walk-counting d = walk-counts leaf centerOf t budget (λ zs p k S m. subst (NoFewer m) (sym (leaf-is zs p k S m)) (le-refl m)) d
 
   pub walk-agrees : (d : ℕ) (zs : List ℤ) (p : Float) (s : Progress K) → s .nodes ≤ budget → Agrees budget (walkAll outcome centerOf t d zs p s) (walk leaf centerOf t budget d zs p (from s))

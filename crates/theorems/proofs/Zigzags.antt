@@ -9,8 +9,7 @@ use lib.IntN.{ℤ, pos, negsuc, sucℤ, predℤ, negℤ, _+ℤ_, _-ℤ_, +ℤ-su
 use lib.Signed.{leZ, mag}
 use lib.Ieee.{Float, le}
 use Rattle.rounding.specs.Integers.{toDouble, roundAway, isI64}
-use Rattle.rounding.proofs.Integers.{leZ-refl, leZ-trans, leZ-suc, leZ-pred}
-use Rattle.rounding.proofs.RoundAway.{roundAway-isI64}
+use Rattle.rounding.proofs.Interface.{leZ-refl, leZ-trans, leZ-suc, leZ-pred, roundAway-isI64}
 use Rattle.definitions.proofs.Steps.{odd-or-even}
 use Rattle.theorems.specs.Children.{upwardAt, zigzagAt, stepLimit}
 use Rattle.theorems.proofs.Booleans.{of-true, of-false}

@@ -32,7 +32,7 @@ unfolding childrenOf start
 children c remaining w = childrenOf (start c remaining w)
 
 -- ---- zigzag order
--- "odd s goes upward if c ≥ m and downward otherwise, even s the other way"
+-- whether step s goes up: the odd steps do where c ≥ m, elsewhere the even ones
 unfoldable pub upwardAt : Float → ℕ → Bool
 unfolding roundAway le ofInt
 upwardAt c s = Bool·beq (eqb (s % 2) 1) (le (toDouble (roundAway c)) c)
@@ -42,7 +42,7 @@ unfoldable pub zigzagAt : Float → ℕ → ℤ
 unfolding roundAway upwardAt
 zigzagAt c s = cond (upwardAt c s) (roundAway c +ℤ pos ((s + 1) / 2)) (roundAway c -ℤ pos ((s + 1) / 2))
 
--- an i64 with "term ≤ remaining"
+-- an i64 whose term is at most `remaining`
 unfoldable pub isChild : Float → Float → Float → ℤ → Bool
 unfolding term le
 isChild c remaining w z = isI64 z && le (term w c z) remaining

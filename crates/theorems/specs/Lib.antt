@@ -1,4 +1,4 @@
--- What the theorems speak of, beside the definitions of document 01.
+-- What the theorems speak of, beside the definitions.
 pub mod Doubles
 pub mod Counting
 pub mod Children
@@ -7,3 +7,6 @@ pub mod Unbudgeted
 pub mod Ordered
 pub mod Refusals
 pub mod Answers
+pub mod Promises
+pub mod SameRead
+pub mod EncodedJob

@@ -23,6 +23,10 @@ Outcome K = List ℤ → Float → K → Float → K × Float
 abbrev pub counted : {K : Type 0} → Progress K → Progress K
 counted s = record { kept = s .kept; standing = s .standing; nodes = suc (s .nodes) }
 
+-- below a child is walked if "partial + term ≤ the standing radius"
+abbrev pub walkedBelow : {K : Type 0} → Float → Progress K → Bool
+walkedBelow sum s = le sum (s .standing)
+
 module _ {K : Type 0} (outcome : Outcome K) (centerOf : ℕ → List ℤ → Float) (t : Table) where
   -- a child costs a node; below it is walked if the test given holds
   abbrev pub afterChild : Bool → (List ℤ → Float → Progress K → Progress K) → List ℤ → Float → Progress K → Progress K
@@ -33,7 +37,7 @@ module _ {K : Type 0} (outcome : Outcome K) (centerOf : ℕ → List ℤ → Flo
   allChildren down level zs p c [] s = s
   allChildren down level zs p c (z ∷ cs) s =
       let sum = add binary64 p (term (weight t level) c z) in
-      allChildren down level zs p c cs (afterChild (le sum (s .standing)) down (z ∷ zs) sum s)
+      allChildren down level zs p c cs (afterChild (walkedBelow sum s) down (z ∷ zs) sum s)
 
   unfoldable pub walkAll : ℕ → List ℤ → Float → Progress K → Progress K
   unfolding allChildren children sub

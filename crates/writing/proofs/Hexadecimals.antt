@@ -2,6 +2,7 @@
 use mathlib.Core.Path.{_≡_, refl}
 use Prim.Native.Nat.{ℕ, suc, _/_, _%_}
 use mathlib.Core.List.{List, [], _∷_}
+use lib.ListN.{length}
 use lib.Ieee.{Float, binary64, toBits}
 use Rattle.definitions.specs.JobText.{digit, hexadecimalBefore, hexadecimal}
 
@@ -12,6 +13,10 @@ no-digits n rest = refl
 pub more-digits : (width n : ℕ) (rest : List ℕ) → hexadecimalBefore (suc width) n rest ≡ hexadecimalBefore width (n / 16) (digit (n % 16) ∷ rest)
 unfolding hexadecimalBefore
 more-digits width n rest = refl
+
+pub digits-length : (n : ℕ) → length (hexadecimalBefore 16 n []) ≡ 16
+unfolding hexadecimalBefore
+digits-length n = refl
 
 pub double-digits : (x : Float) → hexadecimalBefore 16 (toBits binary64 x) [] ≡ hexadecimal x
 unfolding hexadecimal

@@ -1,5 +1,5 @@
 -- Laws of texts written one after the other, then what the proofs of the functions cite.
-pub mod Over
+pub mod Texts
 pub mod Digits
 pub mod Decimals
 pub mod Signs

@@ -12,15 +12,15 @@ pub no-coordinates : pointText [] ≡ []
 unfolding pointText
 no-coordinates = refl
 
-joined : (zs : List ℤ) (z : ℤ) → pointText (zs ++ z ∷ []) ≡ pointText zs ++ (text " " ++ signedDecimal z)
+one-more : (zs : List ℤ) (z : ℤ) → pointText (zs ++ z ∷ []) ≡ pointText zs ++ (text " " ++ signedDecimal z)
 unfolding pointText
-joined [] z = append-nil (text " " ++ signedDecimal z)
-joined (y ∷ zs) z = ap (λ (t : List ℕ). text " " ++ signedDecimal y ++ t) (joined zs z) ∙ sym (append-assoc (text " " ++ signedDecimal y) (pointText zs) (text " " ++ signedDecimal z))
+one-more [] z = append-nil (text " " ++ signedDecimal z)
+one-more (y ∷ zs) z = ap (λ (t : List ℕ). text " " ++ signedDecimal y ++ t) (one-more zs z) ∙ sym (append-assoc (text " " ++ signedDecimal y) (pointText zs) (text " " ++ signedDecimal z))
 
 -- one coordinate more
 pub more-coordinates : (zs : List ℤ) (i : ℕ) → i < length zs → pointText (take i zs) ++ text " " ++ signedDecimal (getD zs i (pos 0)) ≡ pointText (take (i + 1) zs)
 more-coordinates zs i h =
     append-assoc (pointText (take i zs)) (text " ") (signedDecimal (getD zs i (pos 0)))
-    ∙ sym (joined (take i zs) (getD zs i (pos 0)))
+    ∙ sym (one-more (take i zs) (getD zs i (pos 0)))
     ∙ ap pointText (sym (take-suc zs i (pos 0) h))
     ∙ ap (λ (k : ℕ). pointText (take k zs)) (sym (add-one i))

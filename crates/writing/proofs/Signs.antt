@@ -20,24 +20,24 @@ not-negative n = refl
 abbrev pub back : ℤ → ℤ
 back z = toZ w64 (ofZ w64 z)
 
-flipped : (a : ℕ) → pos 0 -ℤ sucℤ (negsuc a) ≡ pos a
-flipped zero = refl
-flipped (suc a) = +ℤ-idl (pos (suc a))
+minus-suc : (a : ℕ) → pos 0 -ℤ sucℤ (negsuc a) ≡ pos a
+minus-suc zero = refl
+minus-suc (suc a) = +ℤ-idl (pos (suc a))
 
 -- the magnitude of a negative number is one more than that of the number above it
 magnitude : (z : ℤ) → leZ (pos 0) z ≡ false → 45 ∷ decimal (natAbs (pos 0 -ℤ (z +ℤ pos 1)) + 1) ≡ signedDecimal z
 unfolding signedDecimal
 magnitude (pos a) t = absurd (true≢false (sym (leb·zero a) ∙ t))
-magnitude (negsuc a) t = ap (λ (y : ℤ). 45 ∷ decimal (natAbs y + 1)) (ap (λ (y : ℤ). pos 0 -ℤ y) (+ℤ-one (negsuc a)) ∙ flipped a) ∙ ap (λ (k : ℕ). 45 ∷ decimal k) (add-one a)
+magnitude (negsuc a) t = ap (λ (y : ℤ). 45 ∷ decimal (natAbs y + 1)) (ap (λ (y : ℤ). pos 0 -ℤ y) (+ℤ-one (negsuc a)) ∙ minus-suc a) ∙ ap (λ (k : ℕ). 45 ∷ decimal k) (add-one a)
 
 -- the steps by which the code turns a negative number lose nothing
-turned : (z : ℤ) → SFits w64 z → SFits w64 (back z +ℤ pos 1) → SFits w64 (pos 0 -ℤ back (back z +ℤ pos 1)) → back (pos 0 -ℤ back (back z +ℤ pos 1)) ≡ pos 0 -ℤ (z +ℤ pos 1)
-turned z f g h =
+negated-is : (z : ℤ) → SFits w64 z → SFits w64 (back z +ℤ pos 1) → SFits w64 (pos 0 -ℤ back (back z +ℤ pos 1)) → back (pos 0 -ℤ back (back z +ℤ pos 1)) ≡ pos 0 -ℤ (z +ℤ pos 1)
+negated-is z f g h =
     toZ-ofZ w64 (pos 0 -ℤ back (back z +ℤ pos 1)) h
     ∙ ap (λ (y : ℤ). pos 0 -ℤ y) (toZ-ofZ w64 (back z +ℤ pos 1) g)
     ∙ ap (λ (y : ℤ). pos 0 -ℤ (y +ℤ pos 1)) (toZ-ofZ w64 z f)
 
 pub negative : (z : ℤ) → SFits w64 z → SFits w64 (back z +ℤ pos 1) → SFits w64 (pos 0 -ℤ back (back z +ℤ pos 1)) → leZ (pos 0) (back z) ≡ false → 45 ∷ decimal (natAbs (back (pos 0 -ℤ back (back z +ℤ pos 1))) + 1) ≡ signedDecimal z
 negative z f g h t =
-    ap (λ (y : ℤ). 45 ∷ decimal (natAbs y + 1)) (turned z f g h)
+    ap (λ (y : ℤ). 45 ∷ decimal (natAbs y + 1)) (negated-is z f g h)
     ∙ magnitude z (ap (leZ (pos 0)) (sym (toZ-ofZ w64 z f)) ∙ t)

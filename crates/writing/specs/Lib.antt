@@ -1,2 +1,4 @@
 -- What the contracts speak of.
-pub mod Over
+pub mod Sizes
+pub mod Written
+pub mod Digits

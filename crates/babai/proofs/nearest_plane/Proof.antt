@@ -1,8 +1,8 @@
 -- `nearest_plane` meets its contract: a refusal of its checks leaves both slices, and after a pass `plane_levels` writes them. Assumes nothing.
 use mathlib.Core.Path.{ap, sym, _∙_}
-use native.Mathlib.Omega.{arith}
 use Rattle.refusals.specs.Numbers.{verdict}
-use Rattle.definitions.specs.Table.{table}
+use Rattle.definitions.specs.Table.{table, largestDimension}
+use Rattle.definitions.proofs.Answers.{plane-is}
 use Rattle.definitions.proofs.Passed.{plane-passed, plane-refused, plane-written}
 use borrow.Author.Needs.{needs}
 use Rattle.babai.proofs.nearest_plane.Statement.{statement}
@@ -24,9 +24,10 @@ returns : tie.Need-returns
 returns c =
     let at = c .before .before in
     let a = at .before .before .before .before .before .before .args in
-    let says = at .plane-check .ensures in
-    let kept = plane-refused (a .coefficients .now) (a .out .now) (table (a .weights .now) (a .mu .now)) _ (sym says ∙ ap verdict (c .enum-told .given .1)) in
-    (says, (sym (kept .0), sym (kept .1)))
+    let t = table (a .weights .now) (a .mu .now) in
+    let says = at .plane-check .ensures ∙ sym (plane-is t (a .coefficients .now) (a .out .now)) in
+    let kept = plane-refused (a .coefficients .now) (a .out .now) t _ (sym says ∙ ap verdict (c .enum-told .given .1)) in
+    record { tells = says; writes = sym (kept .0); leaves = sym (kept .1) }
 
 enum-told-2 : tie.Need-enum-told-2
 enum-told-2 c = search needs
@@ -36,8 +37,7 @@ plane-levels-requires c κs =
     let told = c .before .before in
     let at = told .before .before in
     let a = at .before .before .before .before .before .before .args in
-    let p = plane-passed (table (a .weights .now) (a .mu .now)) (a .coefficients .now) (a .out .now) (sym (at .plane-check .ensures) ∙ ap verdict (told .enum-told2 .given .1)) in
-    (omega (arith, p .checked .small), (p .checked .square, (sym (p .coefficients-length), sym (p .output-length))))
+    plane-passed largestDimension (table (a .weights .now) (a .mu .now)) (a .coefficients .now) (a .out .now) (sym (at .plane-check .ensures) ∙ ap verdict (told .enum-told2 .given .1)) .shape
 
 same-length-3 : tie.Need-same-length-3
 same-length-3 c = search needs
@@ -51,9 +51,10 @@ returns-2 c =
     let told = done .before .before .before in
     let at = told .before .before in
     let a = at .before .before .before .before .before .before .args in
-    let passed = sym (at .plane-check .ensures) ∙ ap verdict (told .enum-told2 .given .1) in
-    let written = plane-written (a .coefficients .now) (a .out .now) (table (a .weights .now) (a .mu .now)) _ passed in
-    (sym passed, (done .plane-levels .ensures .0 ∙ sym (written .0), done .plane-levels .ensures .1 ∙ sym (written .1)))
+    let t = table (a .weights .now) (a .mu .now) in
+    let passed = plane-is t (a .coefficients .now) (a .out .now) ∙ sym (at .plane-check .ensures) ∙ ap verdict (told .enum-told2 .given .1) in
+    let written = plane-written (a .coefficients .now) (a .out .now) t _ passed in
+    record { tells = sym passed; writes = done .plane-levels .ensures .point ∙ sym (written .0); leaves = done .plane-levels .ensures .left ∙ sym (written .1) }
 
 pub nearest-plane-spec : {M : Type 1} → statement M
 nearest-plane-spec =

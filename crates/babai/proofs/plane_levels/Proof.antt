@@ -25,7 +25,7 @@ abbrev μ-loop : tie.MeasureT-loop
 loop-holds : tie.Need-loop-holds Inv-loop μ-loop
 loop-holds c =
     let b = c .before .before .before in
-    (omega arith, b .pre .1 .1 .0, b .pre .1 .1 .1, λ k h. refl, plane-start (table (b .args .weights .now) (b .args .mu .now)) (b .args .coefficients .now) (b .args .out .now) (b .args .coefficients .now) (omega arith) (omega arith))
+    (omega arith, b .pre .shape .target-length, b .pre .output-length, λ k h. refl, plane-start (table (b .args .weights .now) (b .args .mu .now)) (b .args .coefficients .now) (b .args .out .now) (b .args .coefficients .now) (omega arith) (omega arith))
 
 sub-i : tie.Need-sub-i Inv-loop μ-loop
 sub-i c = search needs
@@ -37,7 +37,9 @@ slice-read-start : tie.Need-slice-read-start Inv-loop μ-loop
 slice-read-start c = search needs
 
 center-requires : tie.Need-center-requires Inv-loop μ-loop
-center-requires c κs = (omega arith, (omega arith, (c .before .before .before .before .before .before .before .pre .1 .0, omega arith)))
+center-requires c κs =
+    let b = c .before .before .before .before .before .before .before in
+    record { small = omega (arith, b .pre .shape .small); below = omega arith; square = b .pre .shape .square; fits = omega arith }
 
 round-away-requires : tie.Need-round-away-requires Inv-loop μ-loop
 round-away-requires c κs = search needs
@@ -87,7 +89,7 @@ returns c =
     let t = table (b .args .weights .now) (b .args .mu .now) in
     let l = c .before .loop in
     let e = plane-end t (b .args .coefficients .now) (l .out) (l .coefficients) (l .depth) (omega arith) (l .inv .2) (l .inv .1) (l .inv .4) in
-    (ap (λ (s : Plane). s .point) e, ap (λ (s : Plane). s .left) e)
+    record { point = ap (λ (s : Plane). s .point) e; left = ap (λ (s : Plane). s .left) e }
 
 pub plane-levels-spec : {M : Type 1} → statement M
 plane-levels-spec =

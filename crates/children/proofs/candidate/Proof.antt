@@ -4,9 +4,6 @@ use borrow.Author.Needs.{needs}
 use Rattle.children.proofs.candidate.Statement.{statement}
 use Rattle.children.proofs.candidate.Tie as tie
 
-signed-requires : tie.Need-signed-requires
-signed-requires c κs = search needs
-
 add-t9 : tie.Need-add-t9
 add-t9 c =
     let s = c .before .before .before .before in
@@ -16,9 +13,6 @@ returns : tie.Need-returns
 returns c =
     let s = c .before .before .before .before in
     moved-near (s .args .nearest) (s .args .magnitude) (s .args .positive) (c .signed .result) (s .fits .nearest) (record { sfits = c .signed .ok }) (c .signed .ensures) (c .before .before .before .if1 .taken) (c .before .before .if2 .taken) (c .before .if3 .taken)
-
-cast-m : tie.Need-cast-m
-cast-m c = search needs
 
 sub-if5 : tie.Need-sub-if5
 sub-if5 c = fits-sub-max (c .before .before .args .magnitude) (c .before .before .pre)
@@ -60,10 +54,10 @@ pub candidate-spec : {M : Type 1} → statement M
 candidate-spec =
     tie.close
     (tie.spec
-    signed-requires
+    (λ c κs. search needs)
     add-t9
     returns
-    cast-m
+    (λ c. search needs)
     sub-if5
     returns-2
     add-t10

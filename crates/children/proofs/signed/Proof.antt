@@ -5,13 +5,10 @@ use native.Mathlib.Omega.{arith}
 use mir.Syntax.{w64}
 use mir.Facts.{toZ-pos}
 use mir.ValLaws.{toZ-ofZ}
-use Rattle.rounding.proofs.Saturation.{negated-fits, negated-is}
+use Rattle.rounding.proofs.Interface.{negated-fits, negated-is}
 use borrow.Author.Needs.{needs}
 use Rattle.children.proofs.signed.Statement.{statement}
 use Rattle.children.proofs.signed.Tie as tie
-
-cast-m : tie.Need-cast-m
-cast-m c = search needs
 
 returns : tie.Need-returns
 returns c = let l : c .before .args .magnitude < 2 ^ 63 = omega (arith, c .before .pre) in rw (c .if1 .taken) (toZ-pos w64 l)
@@ -26,4 +23,4 @@ returns-2 c =
     rw (c .if1 .left) (toZ-ofZ w64 _ (negated-fits m l) ∙ negated-is m l)
 
 pub signed-spec : {M : Type 1} → statement M
-signed-spec = tie.close (tie.spec cast-m returns sub-result returns-2)
+signed-spec = tie.close (tie.spec (λ c. search needs) returns sub-result returns-2)

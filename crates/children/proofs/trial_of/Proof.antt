@@ -8,12 +8,6 @@ use Rattle.children.proofs.Terms.{term-at}
 use Rattle.children.proofs.trial_of.Statement.{statement}
 use Rattle.children.proofs.trial_of.Tie as tie
 
-to-double-requires : tie.Need-to-double-requires
-to-double-requires c κs = search needs
-
-term-requires : tie.Need-term-requires
-term-requires c κs = search needs
-
 returns : tie.Need-returns
 returns c =
     let a = c .before .before .args in
@@ -22,4 +16,4 @@ returns c =
     rw (same, c .term .ensures ∙ term-at _ _ _ (a .z) value, value)
 
 pub trial-of-spec : {M : Type 1} → statement M
-trial-of-spec = tie.close (tie.spec to-double-requires term-requires returns)
+trial-of-spec = tie.close (tie.spec (λ c κs. search needs) (λ c κs. search needs) returns)

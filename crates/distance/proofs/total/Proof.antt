@@ -9,8 +9,9 @@ use mir.Syntax.{w64}
 use mir.ValLaws.{toZ-ofZ}
 use borrow.Author.Needs.{needs}
 use Rattle.definitions.specs.Distance.{center, term, partial}
-use Rattle.distance.specs.Residuals.{places, residuals}
-use Rattle.definitions.specs.Table.{table}
+use Rattle.lists.specs.Places.{places}
+use Rattle.distance.specs.Residuals.{residuals}
+use Rattle.definitions.specs.Table.{table, largestDimension}
 use Rattle.rounding.specs.Integers.{toDouble}
 use Rattle.distance.proofs.Totals.{residuals-start, sum-start, residuals-turn, sum-turn}
 use Rattle.distance.proofs.total.Statement.{statement}
@@ -18,7 +19,7 @@ use Rattle.distance.proofs.total.Tie as tie
 
 abbrev Inv-loop : tie.InvT-loop
 Inv-loop mu weights target point n rest₀ sum₀ depth₀ rest sum depth =
-    (depth ≤ n) × (length rest ≡ 23) × (places n depth rest ≡ residuals target depth (places n depth point)) × (sum ≡ partial (table weights mu) target (places n depth point))
+    (depth ≤ n) × (length rest ≡ largestDimension) × (places n depth rest ≡ residuals target depth (places n depth point)) × (sum ≡ partial (table weights mu) target (places n depth point))
 
 abbrev μ-loop : tie.MeasureT-loop
 μ-loop mu weights target point n rest₀ sum₀ depth₀ rest sum depth = depth
@@ -28,54 +29,6 @@ loop-holds c =
     let b = c .before .before .before in
     let t = table (b .args .weights .now) (b .args .mu .now) in
     (omega arith, refl, residuals-start t (b .args .target .now) (b .args .point .now) (omega arith) _ (omega arith), sum-start t (b .args .target .now) (b .args .point .now) (omega arith))
-
-sub-level : tie.Need-sub-level Inv-loop μ-loop
-sub-level c = search needs
-
-slice-aggregate-center : tie.Need-slice-aggregate-center Inv-loop μ-loop
-slice-aggregate-center c = search needs
-
-mul-center : tie.Need-mul-center Inv-loop μ-loop
-mul-center c = search needs
-
-shared-slice-read-center : tie.Need-shared-slice-read-center Inv-loop μ-loop
-shared-slice-read-center c = search needs
-
-center-requires : tie.Need-center-requires Inv-loop μ-loop
-center-requires c κs = (omega arith, (omega arith, (c .before .before .before .before .before .before .before .pre .1 .0, omega arith)))
-
-mul-to-double : tie.Need-mul-to-double Inv-loop μ-loop
-mul-to-double c = search needs
-
-shared-slice-copy-out-to-double : tie.Need-shared-slice-copy-out-to-double Inv-loop μ-loop
-shared-slice-copy-out-to-double c = search needs
-
-to-double-requires : tie.Need-to-double-requires Inv-loop μ-loop
-to-double-requires c κs = search needs
-
-mul-rest : tie.Need-mul-rest Inv-loop μ-loop
-mul-rest c = search needs
-
-shared-slice-read-rest : tie.Need-shared-slice-read-rest Inv-loop μ-loop
-shared-slice-read-rest c = search needs
-
-mul-rest-2 : tie.Need-mul-rest-2 Inv-loop μ-loop
-mul-rest-2 c = search needs
-
-array-write-rest : tie.Need-array-write-rest Inv-loop μ-loop
-array-write-rest c = search needs
-
-mul-term : tie.Need-mul-term Inv-loop μ-loop
-mul-term c = search needs
-
-shared-slice-read-term : tie.Need-shared-slice-read-term Inv-loop μ-loop
-shared-slice-read-term c = search needs
-
-term-requires : tie.Need-term-requires Inv-loop μ-loop
-term-requires c κs = search needs
-
-loop-less : tie.Need-loop-less Inv-loop μ-loop
-loop-less c = search needs
 
 loop-again : tie.Need-loop-again Inv-loop μ-loop
 loop-again c =
@@ -108,21 +61,21 @@ total-spec =
     Inv-loop
     μ-loop
     loop-holds
-    sub-level
-    slice-aggregate-center
-    mul-center
-    shared-slice-read-center
-    center-requires
-    mul-to-double
-    shared-slice-copy-out-to-double
-    to-double-requires
-    mul-rest
-    shared-slice-read-rest
-    mul-rest-2
-    array-write-rest
-    mul-term
-    shared-slice-read-term
-    term-requires
-    loop-less
+    (λ c. search needs)
+    (λ c. search needs)
+    (λ c. search needs)
+    (λ c. search needs)
+    (λ c κs. search needs)
+    (λ c. search needs)
+    (λ c. search needs)
+    (λ c κs. search needs)
+    (λ c. search needs)
+    (λ c. search needs)
+    (λ c. search needs)
+    (λ c. search needs)
+    (λ c. search needs)
+    (λ c. search needs)
+    (λ c κs. search needs)
+    (λ c. search needs)
     loop-again
     returns)

@@ -7,12 +7,6 @@ use Rattle.distance.specs.View.{distanceOf}
 use Rattle.distance.proofs.triangular_distance.Statement.{statement}
 use Rattle.distance.proofs.triangular_distance.Tie as tie
 
-total-requires : tie.Need-total-requires
-total-requires c κs = search needs
-
-is-finite-requires : tie.Need-is-finite-requires
-is-finite-requires c κs = search needs
-
 returns : tie.Need-returns
 returns c =
     let s = c .before .before .total in
@@ -26,4 +20,4 @@ returns-2 c =
     ∙ ap distanceOf (s .ensures)
 
 pub triangular-distance-spec : {M : Type 1} → statement M
-triangular-distance-spec = tie.close (tie.spec total-requires is-finite-requires returns returns-2)
+triangular-distance-spec = tie.close (tie.spec (λ c κs. search needs) (λ c κs. search needs) returns returns-2)

@@ -18,7 +18,7 @@ slice-aggregate-triangular-distance-4 : tie.Need-slice-aggregate-triangular-dist
 slice-aggregate-triangular-distance-4 c = search needs
 
 triangular-distance-requires : tie.Need-triangular-distance-requires
-triangular-distance-requires c κs = (omega arith, (square 3 _ _ (omega arith) (omega arith), (omega arith, omega arith)))
+triangular-distance-requires c κs = record { shape = record { small = omega arith; square = square 3 _ _ (omega arith) (omega arith); target-length = omega arith }; output-length = omega arith }
 
 say-requires : tie.Need-say-requires
 say-requires c κs = search needs

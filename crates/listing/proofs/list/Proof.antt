@@ -1,15 +1,21 @@
 -- `list` meets its contract: a refusal of its checks leaves both slices, and a pass goes on to arrays of one of three sizes. Assumes nothing.
-use mathlib.Core.Path.{_≡_, ap, sym, _∙_, subst}
+use mathlib.Core.Path.{_≡_, refl, ap, sym, _∙_, subst}
 use mathlib.Core.List.{List}
+use Prim.Native.Nat.{ℕ, _*_, _≤_}
+use lib.ListN.{length}
 use lib.IntN.{ℤ}
 use lib.Ieee.{Float}
 use borrow.Author.Needs.{needs}
-use Rattle.definitions.specs.Table.{table}
-use Rattle.definitions.specs.Checks.{Verdict, pass}
+use Rattle.definitions.specs.Table.{Table, table, largestDimension, largestList}
+use Rattle.definitions.specs.Checks.{pass}
 use Rattle.definitions.specs.Calls as C
-use Rattle.definitions.proofs.Answers.{list-refused}
+use Rattle.definitions.proofs.Passed.{list-passed}
+use Rattle.definitions.proofs.Answers.{list-checks-are, list-refused}
 use Rattle.refusals.specs.Numbers.{verdict, numbered}
-use Rattle.listing.specs.View.{answerOf, countsOf, Answered}
+use Rattle.listing.specs.View.{ListAnswered}
+use Rattle.listing.specs.Ready.{ListFits}
+use Rattle.listing.specs.Sizes.{shortList}
+use Rattle.listing.proofs.Buffers.{points-fit}
 use Rattle.listing.specs.declared.ListAnswer.{ListAnswer}
 use Rattle.listing.proofs.Endings.{answer-refused}
 use Rattle.listing.proofs.list.Statement.{statement}
@@ -17,42 +23,41 @@ use Rattle.listing.proofs.list.Tie as tie
 
 -- ---- once the radius is handed on
 module _ (c : tie.After-handed-on) where
-  abbrev begun : tie.Start
-  begun = c .before .before .before .before .before .before .before .before .before .before
+  abbrev entry : tie.Start
+  entry = c .before .before .before .before .before .before .before .before .before .before
 
   -- the slices at entry
   abbrev own : List Float
-  own = begun .args .distances .now
+  own = entry .args .distances .now
 
   abbrev coordinates : List ℤ
-  coordinates = begun .args .points .now
+  coordinates = entry .args .points .now
 
-  abbrev checksAt : Float → Verdict
-  checksAt R = let a = begun .args in C.listChecks (table (a .weights .now) (a .mu .now)) (a .target .now) own coordinates R (a .budget)
+  abbrev t : Table
+  t = table (entry .args .weights .now) (entry .args .mu .now)
 
   abbrev answerAt : Float → C.Answer C.ListAnswer
-  answerAt R = let a = begun .args in C.list (table (a .weights .now) (a .mu .now)) (a .target .now) own coordinates R (a .budget)
+  answerAt R = C.list t (entry .args .target .now) own coordinates R (entry .args .budget)
 
-  passed : checksAt (c .handed-on .result) ≡ pass
-  passed = ap checksAt (c .handed-on .ensures) ∙ sym (c .before .before .before .list-check .ensures) ∙ ap verdict (c .before .enum-told .given .1)
+  abbrev R : Float
+  R = c .handed-on .result
+
+  passed : C.listChecks largestDimension t (entry .args .target .now) own coordinates R (entry .args .budget) ≡ pass
+  passed =
+      ap (λ (x : Float). C.listChecks largestDimension t (entry .args .target .now) own coordinates x (entry .args .budget)) (c .handed-on .ensures)
+      ∙ list-checks-are t (entry .args .target .now) own coordinates (entry .args .radius) (entry .args .budget)
+      ∙ sym (c .before .before .before .list-check .ensures)
+      ∙ ap verdict (c .before .enum-told .given .1)
+
+  few : length own ≤ largestList
+  few = list-passed largestDimension t (entry .args .target .now) own coordinates R (entry .args .budget) passed .places
+
+  fits : (places : ℕ) → length own ≤ places → ListFits t (entry .args .target .now) own coordinates R (entry .args .budget) places (places * largestDimension)
+  fits places h = record { passed = passed; places-fit = h; points-fit = points-fit places t (entry .args .target .now) own coordinates R (entry .args .budget) passed h }
 
   -- what a call says at that radius, it says at the radius given
-  handed : (r : ListAnswer) (ds : List Float) (ps : List ℤ) → Answered (answerAt (c .handed-on .result)) own coordinates r ds ps → (answerOf r ≡ countsOf (answerAt (begun .args .radius))) × ((ds ≡ C.listDistances (answerAt (begun .args .radius)) own) × (ps ≡ C.listPoints (answerAt (begun .args .radius)) coordinates))
-  handed r ds ps h =
-      let k = subst (λ (R : Float). Answered (answerAt R) own coordinates r ds ps) (c .handed-on .ensures) h in
-      (k .tells, (k .writes-distances, k .writes-points))
-
-list-check-requires : tie.Need-list-check-requires
-list-check-requires c κs = search needs
-
-enum-known-checked : tie.Need-enum-known-checked
-enum-known-checked c = search needs
-
-same-length : tie.Need-same-length
-same-length c = search needs
-
-same-length-2 : tie.Need-same-length-2
-same-length-2 c = search needs
+  handed : {r : ListAnswer} {ds : List Float} {ps : List ℤ} → ListAnswered (answerAt R) r own ds coordinates ps → ListAnswered (answerAt (entry .args .radius)) r own ds coordinates ps
+  handed {r} {ds} {ps} h = subst (λ (x : Float). ListAnswered (answerAt x) r own ds coordinates ps) (c .handed-on .ensures) h
 
 returns : tie.Need-returns
 returns c =
@@ -60,78 +65,53 @@ returns c =
     let a = at .before .before .before .before .before .before .before .args in
     let t = table (a .weights .now) (a .mu .now) in
     let e = c .before .checked .given .0 .0 in
-    let q = list-refused t (a .target .now) (a .distances .now) (a .points .now) (a .radius) (a .budget) (numbered e) (sym (at .list-check .ensures) ∙ ap verdict (c .before .checked .given .1)) in
-    let r = answer-refused (C.list t (a .target .now) (a .distances .now) (a .points .now) (a .radius) (a .budget)) (a .distances .now) (a .points .now) (numbered e) q in
-    (r .0, (r .1, r .2))
-
-enum-told : tie.Need-enum-told
-enum-told c = search needs
-
-handed-on-requires : tie.Need-handed-on-requires
-handed-on-requires c κs = search needs
+    let q = list-refused t (a .target .now) (a .distances .now) (a .points .now) (a .radius) (a .budget) (numbered e) (list-checks-are t (a .target .now) (a .distances .now) (a .points .now) (a .radius) (a .budget) ∙ sym (at .list-check .ensures) ∙ ap verdict (c .before .checked .given .1)) in
+    answer-refused (C.list t (a .target .now) (a .distances .now) (a .points .now) (a .radius) (a .budget)) _ (a .distances .now) (a .points .now) (numbered e) refl q
 
 list-short-requires : tie.Need-list-short-requires
-list-short-requires c κs = (passed (c .before .before .before), c .before .before .if1 .taken)
-
-same-length-3 : tie.Need-same-length-3
-same-length-3 c = search needs
-
-same-length-4 : tie.Need-same-length-4
-same-length-4 c = search needs
+list-short-requires c κs = fits (c .before .before .before) shortList (c .before .before .if1 .taken)
 
 returns-2 : tie.Need-returns-2
 returns-2 c =
     let done = c .before .before .before in
-    handed (done .before .before .before .before) (done .list-short .result) _ _ (done .list-short .ensures)
+    handed (done .before .before .before .before) (done .list-short .ensures)
 
 list-middle-requires : tie.Need-list-middle-requires
-list-middle-requires c κs = (passed (c .before .before .before .before), c .before .before .if2 .taken)
-
-same-length-5 : tie.Need-same-length-5
-same-length-5 c = search needs
-
-same-length-6 : tie.Need-same-length-6
-same-length-6 c = search needs
+list-middle-requires c κs = let h = c .before .before .before .before in record { passed = passed h; places-fit = few h; points-fit = c .before .before .if2 .taken }
 
 returns-3 : tie.Need-returns-3
 returns-3 c =
     let done = c .before .before .before in
-    handed (done .before .before .before .before .before) (done .list-middle .result) _ _ (done .list-middle .ensures)
+    handed (done .before .before .before .before .before) (done .list-middle .ensures)
 
 list-long-requires : tie.Need-list-long-requires
-list-long-requires c κs = passed (c .before .before .before .before)
-
-same-length-7 : tie.Need-same-length-7
-same-length-7 c = search needs
-
-same-length-8 : tie.Need-same-length-8
-same-length-8 c = search needs
+list-long-requires c κs = let h = c .before .before .before .before in fits h largestList (few h)
 
 returns-4 : tie.Need-returns-4
 returns-4 c =
     let done = c .before .before .before in
-    handed (done .before .before .before .before .before) (done .list-long .result) _ _ (done .list-long .ensures)
+    handed (done .before .before .before .before .before) (done .list-long .ensures)
 
 pub list-spec : {M : Type 1} → statement M
 list-spec =
     tie.close
     (tie.spec
-    list-check-requires
-    enum-known-checked
-    same-length
-    same-length-2
+    (λ c κs. search needs)
+    (λ c. search needs)
+    (λ c. search needs)
+    (λ c. search needs)
     returns
-    enum-told
-    handed-on-requires
+    (λ c. search needs)
+    (λ c κs. search needs)
     list-short-requires
-    same-length-3
-    same-length-4
+    (λ c. search needs)
+    (λ c. search needs)
     returns-2
     list-middle-requires
-    same-length-5
-    same-length-6
+    (λ c. search needs)
+    (λ c. search needs)
     returns-3
     list-long-requires
-    same-length-7
-    same-length-8
+    (λ c. search needs)
+    (λ c. search needs)
     returns-4)

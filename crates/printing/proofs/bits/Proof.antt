@@ -1,7 +1,7 @@
 -- `printing::bits` is proved: the bits are asked only of a number that equals itself. Assumes nothing.
 use mathlib.Core.Path.{sym, _∙_}
 use borrow.Author.Needs.{needs}
-use Rattle.rounding.proofs.Comparison.{failed, differs}
+use Rattle.rounding.proofs.Interface.{failed, differs}
 use Rattle.printing.proofs.bits.Statement.{statement}
 use Rattle.printing.proofs.bits.Tie as tie
 

@@ -10,28 +10,22 @@ use Rattle.reading.proofs.number_at.Statement.{statement}
 use Rattle.reading.proofs.number_at.Tie as tie
 
 abbrev Inv-loop : tie.InvT-loop
-Inv-loop input offset size value₀ left₀ value left = (left ≤ size) × (value ≡ numberAt input (offset + left) (size - left)) × (value < 2 ^ (8 * (size - left)))
+Inv-loop input offset size value₀ left₀ value left =
+    record { count : left ≤ size; value-so-far : value ≡ numberAt input (offset + left) (size - left); bound : value < 2 ^ (8 * (size - left)) }
 
 abbrev μ-loop : tie.MeasureT-loop
 μ-loop input offset size value₀ left₀ value left = left
 
 loop-holds : tie.Need-loop-holds Inv-loop μ-loop
-loop-holds c = let z : c .args .size - c .args .size ≡ 0 = omega arith in (omega arith, sym (number-none (c .args .input .now) (c .args .offset + c .args .size) _ z), omega (arith, ap (λ (k : ℕ). 2 ^ (8 * k)) z))
-
-sub-left : tie.Need-sub-left Inv-loop μ-loop
-sub-left c = search needs
+loop-holds c =
+    let z : c .args .size - c .args .size ≡ 0 = omega arith in
+    record { count = omega arith; value-so-far = sym (number-none (c .args .input .now) (c .args .offset + c .args .size) _ z); bound = omega (arith, ap (λ (k : ℕ). 2 ^ (8 * k)) z) }
 
 mul-value : tie.Need-mul-value Inv-loop μ-loop
 mul-value c =
     let l = c .before .loop in
-    let small = few-bytes (l .value) (c .before .before .args .size - l .left) (omega arith) (l .inv .2) in
+    let small = few-bytes (l .value) (c .before .before .args .size - l .left) (omega arith) (l .inv .bound) in
     omega (arith, small)
-
-add-value : tie.Need-add-value Inv-loop μ-loop
-add-value c = search needs
-
-shared-slice-read-value : tie.Need-shared-slice-read-value Inv-loop μ-loop
-shared-slice-read-value c = search needs
 
 cast-value : tie.Need-cast-value Inv-loop μ-loop
 cast-value c =
@@ -44,11 +38,8 @@ add-value-2 c =
     let at = c .before .before in
     let l = at .loop in
     let byte = c .shared-slice-known .given (at .before .args .offset + (l .left - 1)) .fits in
-    let small = few-bytes (l .value) (at .before .args .size - l .left) (omega arith) (l .inv .2) in
+    let small = few-bytes (l .value) (at .before .args .size - l .left) (omega arith) (l .inv .bound) in
     omega (arith, small, byte)
-
-loop-less : tie.Need-loop-less Inv-loop μ-loop
-loop-less c = search needs
 
 loop-again : tie.Need-loop-again Inv-loop μ-loop
 loop-again c =
@@ -60,13 +51,9 @@ loop-again c =
     let byte = c .shared-slice-known .given o .fits in
     let more : a .size - (l .left - 1) ≡ suc k = omega arith in
     let next : suc o ≡ a .offset + l .left = omega arith in
-    let value =
-    ap (numberAt (a .input .now) o) more
-    ∙ number-more (a .input .now) o k (omega arith)
-    ∙ ap (λ (j : ℕ). getD (a .input .now) o 0 + 256 * numberAt (a .input .now) j k) next
-    ∙ ap (λ (v : ℕ). getD (a .input .now) o 0 + 256 * v) (sym (l .inv .1))
-    in
-    (omega arith, omega (arith, value), omega (arith, more-bound (l .value) (getD (a .input .now) o 0) k (l .inv .2) byte, ap (λ (j : ℕ). 2 ^ (8 * j)) more))
+    let first = number-more (a .input .now) o k (omega arith) in
+    let value : numberAt (a .input .now) o (a .size - (l .left - 1)) ≡ getD (a .input .now) o 0 + 256 * l .value = cc (more, first, next, l .inv .value-so-far) in
+    record { count = omega arith; value-so-far = omega (arith, value); bound = omega (arith, more-bound (l .value) (getD (a .input .now) o 0) k (l .inv .bound) byte, ap (λ (j : ℕ). 2 ^ (8 * j)) more) }
 
 returns : tie.Need-returns Inv-loop μ-loop
 returns c =
@@ -75,8 +62,8 @@ returns c =
     let a = at .before .args in
     let done : l .left ≡ 0 = omega arith in
     let all : a .size - l .left ≡ a .size = omega arith in
-    let value = l .inv .1 ∙ ap (λ (j : ℕ). numberAt (a .input .now) j (a .size - l .left)) (omega arith) ∙ ap (numberAt (a .input .now) (a .offset)) all in
-    (value, omega (arith, l .inv .2, ap (λ (j : ℕ). 2 ^ (8 * j)) all))
+    let value = l .inv .value-so-far ∙ ap (λ (j : ℕ). numberAt (a .input .now) j (a .size - l .left)) (omega arith) ∙ ap (numberAt (a .input .now) (a .offset)) all in
+    record { value = value; bound = omega (arith, l .inv .bound, ap (λ (j : ℕ). 2 ^ (8 * j)) all) }
 
 pub number-at-spec : {M : Type 1} → statement M
 number-at-spec =
@@ -85,12 +72,12 @@ number-at-spec =
     Inv-loop
     μ-loop
     loop-holds
-    sub-left
+    (λ c. search needs)
     mul-value
-    add-value
-    shared-slice-read-value
+    (λ c. search needs)
+    (λ c. search needs)
     cast-value
     add-value-2
-    loop-less
+    (λ c. search needs)
     loop-again
     returns)

@@ -14,13 +14,13 @@ use Rattle.rounding.proofs.round_away.Tie as tie
 -- ---- above zero
 rounded-requires : tie.Need-rounded-requires
 unfolding ofBits
-rounded-requires c κs = (held (c .before .if1 .taken), held (c .if2 .taken))
+rounded-requires c κs = record { above = held (c .before .if1 .taken); below = held (c .if2 .taken) }
 
 cast-result : tie.Need-cast-result
 cast-result c = search needs
 
 returns : tie.Need-returns
-returns c = toZ-pos w64 (c .rounded .ensures .0) ∙ c .rounded .ensures .1
+returns c = toZ-pos w64 (c .rounded .ensures .under) ∙ c .rounded .ensures .own
 
 returns-2 : tie.Need-returns-2
 unfolding ofBits
@@ -29,19 +29,19 @@ returns-2 c = at-top (c .before .before .args .v) (held (c .before .if1 .taken))
 -- ---- below zero
 rounded-requires-2 : tie.Need-rounded-requires-2
 unfolding ofBits
-rounded-requires-2 c κs = (above-zero (c .before .before .before .args .v) (held (c .before .if3 .taken)), held (c .if4 .taken))
+rounded-requires-2 c κs = record { above = above-zero (c .before .before .before .args .v) (held (c .before .if3 .taken)); below = held (c .if4 .taken) }
 
 cast-result-2 : tie.Need-cast-result-2
 cast-result-2 c = search needs
 
 sub-result : tie.Need-sub-result
-sub-result c = negated-fits (c .rounded2 .result) (c .rounded2 .ensures .0)
+sub-result c = negated-fits (c .rounded2 .result) (c .rounded2 .ensures .under)
 
 returns-3 : tie.Need-returns-3
 returns-3 c =
     let r = c .rounded2 .result in
-    let below = c .rounded2 .ensures .0 in
-    toZ-ofZ w64 _ (negated-fits r below) ∙ negated-is r below ∙ c .rounded2 .ensures .2 ∙ ap roundAway (neg-twice (c .before .before .before .before .args .v))
+    let below = c .rounded2 .ensures .under in
+    toZ-ofZ w64 _ (negated-fits r below) ∙ negated-is r below ∙ c .rounded2 .ensures .negated ∙ ap roundAway (neg-twice (c .before .before .before .before .args .v))
 
 returns-4 : tie.Need-returns-4
 unfolding ofBits

@@ -29,7 +29,7 @@ returns c =
     let under : T (lt (sub binary64 v (toDouble (g .result))) half) = subst (λ (y : Float). T (lt (sub binary64 v y) half)) x (held (c .before .if1 .taken)) in
     let over : T (lt minusHalf (sub binary64 v (toDouble (g .result)))) = subst (λ (y : Float). T (lt minusHalf (sub binary64 v y))) x (held (c .if2 .taken)) in
     let n : g .result ≡ roundAway v = near-is v (held (b .before .good .0 .1)) (g .result) (g .ensures) under over in
-    (e ∙ n, x ∙ ap toDouble n)
+    record { integer = e ∙ n; double = x ∙ ap toDouble n }
 
 round-away-requires : tie.Need-round-away-requires
 round-away-requires c κs = search needs
@@ -41,7 +41,7 @@ returns-2 : tie.Need-returns-2
 returns-2 c =
     let r = c .before .round-away in
     let e : _ ≡ roundAway (c .before .before .before .before .before .args .v) = toZ-ofZ w64 (r .result) (record { sfits = r .ok }) ∙ r .ensures in
-    (e, c .to-double2 .ensures ∙ ap toDouble e)
+    record { integer = e; double = c .to-double2 .ensures ∙ ap toDouble e }
 
 pub rounded-away-spec : {M : Type 1} → statement M
 rounded-away-spec =

@@ -9,7 +9,7 @@ use mir.ValLaws.{toZ-ofZ}
 use lib.IntN.{pos}
 use lib.ListN.{getD, take}
 use Rattle.definitions.specs.Nearest.{lexicographic}
-use Rattle.distance.specs.Residuals.{places}
+use Rattle.lists.specs.Places.{places}
 use Rattle.search.proofs.Orders.{order-stop, order-less, order-more, order-same}
 use Rattle.search.proofs.before.Statement.{statement}
 use Rattle.search.proofs.before.Tie as tie
@@ -19,21 +19,6 @@ Inv-loop point best n i₀ i = (i ≤ n) × (lexicographic (places n i point) (p
 
 abbrev μ-loop : tie.MeasureT-loop
 μ-loop point best n i₀ i = n - i
-
-loop-holds : tie.Need-loop-holds Inv-loop μ-loop
-loop-holds c = search needs
-
-mul-a : tie.Need-mul-a Inv-loop μ-loop
-mul-a c = search needs
-
-element-copy-out-a : tie.Need-element-copy-out-a Inv-loop μ-loop
-element-copy-out-a c = search needs
-
-mul-b : tie.Need-mul-b Inv-loop μ-loop
-mul-b c = search needs
-
-element-copy-out-b : tie.Need-element-copy-out-b Inv-loop μ-loop
-element-copy-out-b c = search needs
 
 returns : tie.Need-returns Inv-loop μ-loop
 returns c =
@@ -53,12 +38,6 @@ returns-2 c =
     let e = rw (toZ-ofZ w64 _ x, toZ-ofZ w64 _ y) at (c .before .if1 .left) in
     let f = rw (toZ-ofZ w64 _ x, toZ-ofZ w64 _ y) at (c .if2 .taken) in
     sym (order-more (a .n) (a .point .now) (a .best .now) (omega arith) (omega arith) (l .loop .i) (omega arith) e f) ∙ l .loop .inv .1
-
-add-i : tie.Need-add-i Inv-loop μ-loop
-add-i c = search needs
-
-loop-less : tie.Need-loop-less Inv-loop μ-loop
-loop-less c = search needs
 
 loop-again : tie.Need-loop-again Inv-loop μ-loop
 loop-again c =
@@ -82,14 +61,14 @@ before-spec =
     (tie.spec
     Inv-loop
     μ-loop
-    loop-holds
-    mul-a
-    element-copy-out-a
-    mul-b
-    element-copy-out-b
+    (λ c. search needs)
+    (λ c. search needs)
+    (λ c. search needs)
+    (λ c. search needs)
+    (λ c. search needs)
     returns
     returns-2
-    add-i
-    loop-less
+    (λ c. search needs)
+    (λ c. search needs)
     loop-again
     returns-3)

@@ -1,10 +1,10 @@
--- `consider` is the leaf of `nearest`: each exit is a law of `Leaves`. Assumes nothing.
+-- `consider` is the leaf of `nearest`: each exit is a law of `NearestLeaf`. Assumes nothing.
 use mathlib.Core.Path.{sym, _∙_}
 use mathlib.Core.Bool.{true, false}
 use Prim.Native.Nat.{_<_}
 use native.Mathlib.Omega.{arith}
 use borrow.Author.Needs.{needs}
-use Rattle.search.proofs.Leaves.{replaced, stayed, first, nearer, tied, farther}
+use Rattle.search.proofs.NearestLeaf.{replaced, stayed, first, nearer, tied, farther}
 use Rattle.search.proofs.consider.Statement.{statement}
 use Rattle.search.proofs.consider.Tie as tie
 
@@ -15,28 +15,16 @@ start m = m .before .before
 some : (m : tie.Else1) → 0 < start m .args .found .now
 some m = omega (arith, m .if1 .left)
 
-taken-requires : tie.Need-taken-requires
-taken-requires c κs = search needs
-
 returns : tie.Need-returns
 returns c =
     let a = c .before .before .before .args in
-    replaced (a .n) (a .t1) (a .distance) (a .found .now) (c .taken .result) (c .taken .ensures) 1 (omega arith) (first (a .n) (a .t1) (a .distance) (a .found .now) (c .before .if1 .taken))
-
-taken-requires-2 : tie.Need-taken-requires-2
-taken-requires-2 c κs = search needs
+    replaced (a .n) (a .t1) (a .distance) (a .found .now) (c .with-best .result) (c .with-best .ensures) 1 (omega arith) (first (a .n) (a .t1) (a .distance) (a .found .now) (c .before .if1 .taken))
 
 returns-2 : tie.Need-returns-2
 returns-2 c =
     let m = c .before .before in
     let a = start m .args in
-    replaced (a .n) (a .t1) (a .distance) (a .found .now) (c .taken2 .result) (c .taken2 .ensures) (a .found .now) (some m) (nearer (a .n) (a .t1) (a .distance) (a .found .now) (some m) (c .before .if2 .taken))
-
-before-requires : tie.Need-before-requires
-before-requires c κs = search needs
-
-taken-requires-3 : tie.Need-taken-requires-3
-taken-requires-3 c κs = search needs
+    replaced (a .n) (a .t1) (a .distance) (a .found .now) (c .with-best2 .result) (c .with-best2 .ensures) (a .found .now) (some m) (nearer (a .n) (a .t1) (a .distance) (a .found .now) (some m) (c .before .if2 .taken))
 
 returns-3 : tie.Need-returns-3
 returns-3 c =
@@ -44,7 +32,7 @@ returns-3 c =
     let m = i .before .before in
     let a = start m .args in
     let better = tied (a .n) (a .t1) (a .distance) (a .found .now) (some m) (i .before .if2 .left) true (i .if3 .taken) (sym (c .before .before .before2 .ensures) ∙ c .before .if4 .taken) in
-    replaced (a .n) (a .t1) (a .distance) (a .found .now) (c .taken3 .result) (c .taken3 .ensures) (a .found .now) (some m) better
+    replaced (a .n) (a .t1) (a .distance) (a .found .now) (c .with-best3 .result) (c .with-best3 .ensures) (a .found .now) (some m) better
 
 returns-4 : tie.Need-returns-4
 returns-4 c =
@@ -63,12 +51,12 @@ pub consider-spec : {M : Type 1} → statement M
 consider-spec =
     tie.close
     (tie.spec
-    taken-requires
+    (λ c κs. search needs)
     returns
-    taken-requires-2
+    (λ c κs. search needs)
     returns-2
-    before-requires
-    taken-requires-3
+    (λ c κs. search needs)
+    (λ c κs. search needs)
     returns-3
     returns-4
     returns-5)

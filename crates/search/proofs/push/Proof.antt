@@ -1,64 +1,61 @@
--- `push` is the leaf of `list`: its two exits are laws of `Rows`. Assumes nothing.
+-- `push` is the leaf of `list`: its two exits are laws of `ListLeaf`. Assumes nothing.
 use Prim.Native.Nat.{_+_, _*_, _≤_}
 use native.Mathlib.Omega.{arith}
-use borrow.Author.Needs.{needs}
 use lib.ListN.{length}
-use Rattle.search.proofs.Rows.{inside, push-full, push-stored}
+use borrow.Author.Needs.{needs}
+use Rattle.lists.proofs.Copies.{copied-part}
+use Rattle.search.proofs.ListLeaf.{inside, push-full, push-stored}
 use Rattle.search.proofs.push.Statement.{statement}
 use Rattle.search.proofs.push.Tie as tie
-
-add-found : tie.Need-add-found
-add-found c = search needs
 
 returns : tie.Need-returns
 returns c =
     let a = c .before .before .before .args in
     push-full (a .n) (a .point .now) (a .distance) (a .found .now) (a .distances .now) (a .points .now) (omega arith)
 
-mul-distances : tie.Need-mul-distances
-mul-distances c = search needs
-
-slice-write-distances : tie.Need-slice-write-distances
-slice-write-distances c = search needs
-
 -- there is a place
 room : (m : tie.Else1) → let a = m .before .before .before .args in a .found .now * a .n + a .n ≤ length (a .points .now)
 room m =
     let b = m .before .before .before in
     let a = b .args in
-    inside (a .n) (a .found .now) (a .distances .now) (a .points .now) (omega arith) (b .pre .1 .1 .1 .1)
+    inside (a .n) (a .found .now) (a .distances .now) (a .points .now) (omega arith) (b .pre .points-length)
 
-mul-write : tie.Need-mul-write
-mul-write c = omega (arith, room c)
+mul-start : tie.Need-mul-start
+mul-start c = omega (arith, room c)
 
-write-requires : tie.Need-write-requires
-write-requires c κs =
-    let b = c .before .before .before .before in
-    (b .pre .0, (b .pre .1 .0, room (c .before)))
+add-end : tie.Need-add-end
+add-end c = omega (arith, room c)
 
-same-length : tie.Need-same-length
-same-length c = search needs
+mul-copy-i64 : tie.Need-mul-copy-i64
+mul-copy-i64 c = omega (arith, room c)
 
-same-length-2 : tie.Need-same-length-2
-same-length-2 c = search needs
+part-copy-i64-end : tie.Need-part-copy-i64-end
+part-copy-i64-end c = omega (arith, room c)
 
 returns-2 : tie.Need-returns-2
 returns-2 c =
-    let w = c .before in
-    let b = w .before .before .before .before .before in
+    let v = c .before in
+    let m = v .before .before in
+    let b = m .before .before .before in
     let a = b .args in
-    push-stored (a .n) (a .point .now) (a .distance) (a .found .now) (a .distances .now) (a .points .now) (omega arith) (b .pre .1 .1 .1 .1) (omega arith) (w .write .last .1 .1 .1 .0) (w .write .ensures)
+    push-stored (a .n) (a .point .now) (a .distance) (a .found .now) (a .distances .now) (a .points .now) (omega arith) (b .pre .points-length) (b .pre .point-fits) _
+    (copied-part (a .points .now) (a .point .now) (a .found .now * a .n) (a .n) (v .copy-i64 .last .1 .0) (room m) (b .pre .point-fits) (v .copy-i64 .ensures))
 
 pub push-spec : {M : Type 1} → statement M
 push-spec =
     tie.close
     (tie.spec
-    add-found
+    (λ c. search needs)
     returns
-    mul-distances
-    slice-write-distances
-    mul-write
-    write-requires
-    same-length
-    same-length-2
+    (λ c. search needs)
+    (λ c. search needs)
+    mul-start
+    add-end
+    mul-copy-i64
+    (λ c. search needs)
+    (λ c. search needs)
+    part-copy-i64-end
+    (λ c κs. search needs)
+    (λ c. search needs)
+    (λ c. search needs)
     returns-2)

@@ -23,7 +23,7 @@ plane-total-requires : tie.Need-plane-total-requires
 plane-total-requires c κs =
     let b = c .before .before .before .before .before in
     let n = length (b .args .weights .now) in
-    (b .pre .0, (b .pre .1 .0, (b .pre .1 .1, (length-take-le n _ (omega arith), length-take-le n _ (omega arith)))))
+    record { shape = record { shape = b .pre; output-length = length-take-le n _ (omega arith) }; coefficients-length = length-take-le n _ (omega arith) }
 
 returns : tie.Need-returns
 returns c = search needs

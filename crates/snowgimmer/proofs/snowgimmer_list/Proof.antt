@@ -1,32 +1,44 @@
--- `snowgimmer_list` meets its contract: it tells what the answer of `list` does. Assumes nothing.
+-- `snowgimmer_list` meets its contract: it tells what the answer of `list` does, and promises what the theorems say of it. Assumes nothing.
 use mathlib.Core.Path.{ap, _∙_}
+use Rattle.rounding.proofs.Interface.{held}
+use Rattle.lists.proofs.Tuples.{sixth}
+use Rattle.definitions.specs.Table.{table}
+use Rattle.definitions.specs.Calls as C
+use Rattle.theorems.specs.Promises.{ListPromises}
+use Rattle.theorems.proofs.Checked.{doubles-in}
+use Rattle.theorems.proofs.Promises.{list-promises}
 use Rattle.snowgimmer.specs.Reports.{ofCounts}
+use Rattle.snowgimmer.proofs.Slices.{held-in}
 use borrow.Author.Needs.{needs}
 use Rattle.snowgimmer.proofs.snowgimmer_list.Statement.{statement}
 use Rattle.snowgimmer.proofs.snowgimmer_list.Tie as tie
 
-list-requires : tie.Need-list-requires
-list-requires c κs = search needs
-
-list-report-requires : tie.Need-list-report-requires
-list-report-requires c κs = search needs
-
-stored-requires : tie.Need-stored-requires
-stored-requires c κs = search needs
-
-same-length : tie.Need-same-length
-same-length c = search needs
-
-same-length-2 : tie.Need-same-length-2
-same-length-2 c = search needs
-
 returns : tie.Need-returns
 returns c =
-    let told = c .before .before .before .before in
-    let at = told .before .before .before .before in
-    (c .stored .ensures ∙ told .list-report .ensures ∙ ap ofCounts (at .list .ensures .0), at .list .ensures .1)
+    let reported = c .before .before .before .before in
+    let at = reported .before .before .before .before in
+    let known = at .before .before .before .before in
+    let s = known .before .before .before in
+    let a = s .args in
+    let t = table (a .weights .now) (a .mu .now) in
+    let answer = C.list t (a .target .now) (a .distances .now) (a .points .now) (a .radius) (a .budget) in
+    let answered = at .list .ensures in
+    let doubles = doubles-in t (a .target .now) (known .before .before .shared-slice-known .given) (known .before .shared-slice-known2 .given) (known .shared-slice-known3 .given) in
+    let promised = list-promises t (a .target .now) (a .distances .now) (a .points .now) (a .radius) (a .budget) doubles (held (sixth (s .good) .1)) in
+    record {
+      tells = c .stored .ensures ∙ reported .list-report .ensures ∙ ap ofCounts (answered .tells);
+      writes-distances = answered .writes-distances;
+      writes-points = answered .writes-points;
+      promises = held-in (ListPromises t (a .target .now) (a .distances .now) (a .points .now) (a .radius) (a .budget) answer) (answered .writes-distances) (answered .writes-points) promised;
+    }
 
 pub snowgimmer-list-spec : {M : Type 1} → statement M
 snowgimmer-list-spec =
     tie.close
-    (tie.spec list-requires list-report-requires stored-requires same-length same-length-2 returns)
+    (tie.spec
+    (λ c κs. search needs)
+    (λ c κs. search needs)
+    (λ c κs. search needs)
+    (λ c. search needs)
+    (λ c. search needs)
+    returns)

@@ -1,29 +1,41 @@
--- `snowgimmer_nearest` meets its contract: it tells what the answer of `nearest` does. Assumes nothing.
-use mathlib.Core.Path.{ap, _∙_}
+-- `snowgimmer_nearest` meets its contract: it tells what the answer of `nearest` does, and promises what the theorems say of it. Assumes nothing.
+use mathlib.Core.Path.{ap, sym, _∙_, subst}
+use mathlib.Core.List.{List}
+use lib.IntN.{ℤ}
+use Rattle.rounding.proofs.Interface.{held}
+use Rattle.lists.proofs.Tuples.{fifth}
+use Rattle.definitions.specs.Table.{table}
+use Rattle.definitions.specs.Calls as C
+use Rattle.theorems.specs.Promises.{NearestPromises}
+use Rattle.theorems.proofs.Checked.{doubles-in}
+use Rattle.theorems.proofs.Promises.{nearest-promises}
 use Rattle.snowgimmer.specs.Reports.{ofNearest}
 use borrow.Author.Needs.{needs}
 use Rattle.snowgimmer.proofs.snowgimmer_nearest.Statement.{statement}
 use Rattle.snowgimmer.proofs.snowgimmer_nearest.Tie as tie
 
-nearest-requires : tie.Need-nearest-requires
-nearest-requires c κs = search needs
-
-nearest-report-requires : tie.Need-nearest-report-requires
-nearest-report-requires c κs = search needs
-
-stored-requires : tie.Need-stored-requires
-stored-requires c κs = search needs
-
-same-length : tie.Need-same-length
-same-length c = search needs
-
 returns : tie.Need-returns
 returns c =
-    let told = c .before .before .before .before in
-    let at = told .before .before in
-    (c .stored .ensures ∙ told .nearest-report .ensures _ ∙ ap ofNearest (at .nearest .ensures .0), at .nearest .ensures .1)
+    let reported = c .before .before .before .before in
+    let at = reported .before .before in
+    let known = at .before .before in
+    let s = known .before .before .before in
+    let a = s .args in
+    let t = table (a .weights .now) (a .mu .now) in
+    let answered = at .nearest .ensures in
+    let doubles = doubles-in t (a .target .now) (known .before .before .shared-slice-known .given) (known .before .shared-slice-known2 .given) (known .shared-slice-known3 .given) in
+    record {
+      tells = c .stored .ensures ∙ reported .nearest-report .ensures _ ∙ ap ofNearest (answered .tells);
+      writes = answered .writes;
+      promises = subst (λ (o : List ℤ). NearestPromises t (a .target .now) (a .out .now) (a .radius) (a .budget) (C.nearest t (a .target .now) (a .out .now) (a .radius) (a .budget)) o) (sym (answered .writes)) (nearest-promises t (a .target .now) (a .out .now) (a .radius) (a .budget) doubles (held (fifth (s .good) .1)));
+    }
 
 pub snowgimmer-nearest-spec : {M : Type 1} → statement M
 snowgimmer-nearest-spec =
     tie.close
-    (tie.spec nearest-requires nearest-report-requires stored-requires same-length returns)
+    (tie.spec
+    (λ c κs. search needs)
+    (λ c κs. search needs)
+    (λ c κs. search needs)
+    (λ c. search needs)
+    returns)

@@ -1,29 +1,39 @@
--- `snowgimmer_nearest_ml` meets its contract: it tells what the answer of `nearest_ml` does. Assumes nothing.
-use mathlib.Core.Path.{ap, _∙_}
+-- `snowgimmer_nearest_ml` meets its contract: it tells what the answer of `nearest_ml` does, and promises what the theorems say of it. Assumes nothing.
+use mathlib.Core.Path.{ap, sym, _∙_, subst}
+use mathlib.Core.List.{List}
+use lib.IntN.{ℤ}
+use Rattle.definitions.specs.Table.{table}
+use Rattle.definitions.specs.Calls as C
+use Rattle.theorems.specs.Promises.{MlPromises}
+use Rattle.theorems.proofs.Checked.{doubles-in}
+use Rattle.theorems.proofs.Promises.{ml-promises}
 use Rattle.snowgimmer.specs.Reports.{ofNearest}
 use borrow.Author.Needs.{needs}
 use Rattle.snowgimmer.proofs.snowgimmer_nearest_ml.Statement.{statement}
 use Rattle.snowgimmer.proofs.snowgimmer_nearest_ml.Tie as tie
 
-nearest-ml-requires : tie.Need-nearest-ml-requires
-nearest-ml-requires c κs = search needs
-
-nearest-report-requires : tie.Need-nearest-report-requires
-nearest-report-requires c κs = search needs
-
-stored-requires : tie.Need-stored-requires
-stored-requires c κs = search needs
-
-same-length : tie.Need-same-length
-same-length c = search needs
-
 returns : tie.Need-returns
 returns c =
-    let told = c .before .before .before .before in
-    let at = told .before .before in
-    (c .stored .ensures ∙ told .nearest-report .ensures _ ∙ ap ofNearest (at .nearest-ml .ensures .0), at .nearest-ml .ensures .1)
+    let reported = c .before .before .before .before in
+    let at = reported .before .before in
+    let known = at .before .before in
+    let s = known .before .before .before in
+    let a = s .args in
+    let t = table (a .weights .now) (a .mu .now) in
+    let answered = at .nearest-ml .ensures in
+    let doubles = doubles-in t (a .target .now) (known .before .before .shared-slice-known .given) (known .before .shared-slice-known2 .given) (known .shared-slice-known3 .given) in
+    record {
+      tells = c .stored .ensures ∙ reported .nearest-report .ensures _ ∙ ap ofNearest (answered .tells);
+      writes = answered .writes;
+      promises = subst (λ (o : List ℤ). MlPromises t (a .target .now) (a .out .now) (a .budget) (C.nearestMl t (a .target .now) (a .out .now) (a .budget)) o) (sym (answered .writes)) (ml-promises t (a .target .now) (a .out .now) (a .budget) doubles);
+    }
 
 pub snowgimmer-nearest-ml-spec : {M : Type 1} → statement M
 snowgimmer-nearest-ml-spec =
     tie.close
-    (tie.spec nearest-ml-requires nearest-report-requires stored-requires same-length returns)
+    (tie.spec
+    (λ c κs. search needs)
+    (λ c κs. search needs)
+    (λ c κs. search needs)
+    (λ c. search needs)
+    returns)

@@ -1,29 +1,43 @@
--- `snowgimmer_nearest_seeded` meets its contract: it tells what the answer of `nearest_seeded` does. Assumes nothing.
-use mathlib.Core.Path.{ap, _∙_}
+-- `snowgimmer_nearest_seeded` meets its contract: it tells what the answer of `nearest_seeded` does, and promises what the theorems say of it. Assumes nothing.
+use mathlib.Core.Path.{ap, sym, _∙_, subst}
+use mathlib.Core.List.{List}
+use lib.IntN.{ℤ}
+use Rattle.rounding.proofs.Interface.{held}
+use Rattle.lists.proofs.Tuples.{sixth}
+use Rattle.definitions.specs.Table.{table}
+use Rattle.definitions.specs.Calls as C
+use Rattle.theorems.specs.Promises.{SeededPromises}
+use Rattle.theorems.proofs.Checked.{doubles-in}
+use Rattle.theorems.proofs.Promises.{seeded-promises}
 use Rattle.snowgimmer.specs.Reports.{ofNearest}
 use borrow.Author.Needs.{needs}
 use Rattle.snowgimmer.proofs.snowgimmer_nearest_seeded.Statement.{statement}
 use Rattle.snowgimmer.proofs.snowgimmer_nearest_seeded.Tie as tie
 
-nearest-seeded-requires : tie.Need-nearest-seeded-requires
-nearest-seeded-requires c κs = search needs
-
-nearest-report-requires : tie.Need-nearest-report-requires
-nearest-report-requires c κs = search needs
-
-stored-requires : tie.Need-stored-requires
-stored-requires c κs = search needs
-
-same-length : tie.Need-same-length
-same-length c = search needs
-
 returns : tie.Need-returns
 returns c =
-    let told = c .before .before .before .before in
-    let at = told .before .before in
-    (c .stored .ensures ∙ told .nearest-report .ensures _ ∙ ap ofNearest (at .nearest-seeded .ensures .0), at .nearest-seeded .ensures .1)
+    let reported = c .before .before .before .before in
+    let at = reported .before .before in
+    let integers = at .before .before in
+    let known = integers .before in
+    let s = known .before .before .before in
+    let a = s .args in
+    let t = table (a .weights .now) (a .mu .now) in
+    let answered = at .nearest-seeded .ensures in
+    let doubles = doubles-in t (a .target .now) (known .before .before .shared-slice-known .given) (known .before .shared-slice-known2 .given) (known .shared-slice-known3 .given) in
+    record {
+      tells = c .stored .ensures ∙ reported .nearest-report .ensures _ ∙ ap ofNearest (answered .tells);
+      writes = answered .writes;
+      promises = subst (λ (o : List ℤ). SeededPromises t (a .target .now) (a .out .now) (a .candidate .now) (a .radius) (a .budget) (C.nearestSeeded t (a .target .now) (a .out .now) (a .candidate .now) (a .radius) (a .budget)) o) (sym (answered .writes)) (seeded-promises t (a .target .now) (a .out .now) (a .candidate .now) (a .radius) (a .budget) doubles (held (sixth (s .good) .1)) (integers .read-integers .ensures));
+    }
 
 pub snowgimmer-nearest-seeded-spec : {M : Type 1} → statement M
 snowgimmer-nearest-seeded-spec =
     tie.close
-    (tie.spec nearest-seeded-requires nearest-report-requires stored-requires same-length returns)
+    (tie.spec
+    (λ c κs. search needs)
+    (λ c κs. search needs)
+    (λ c κs. search needs)
+    (λ c κs. search needs)
+    (λ c. search needs)
+    returns)

@@ -1,28 +1,33 @@
--- `snowgimmer_round` meets its contract: it tells what the verdict of `round` does. Assumes nothing.
-use mathlib.Core.Path.{ap, _∙_}
+-- `snowgimmer_round` meets its contract: it tells what the verdict of `round` does, and promises what the theorems say of it. Assumes nothing.
+use mathlib.Core.Path.{ap, sym, _∙_, subst}
+use mathlib.Core.List.{List}
+use lib.IntN.{ℤ}
+use Rattle.definitions.specs.Calls as C
+use Rattle.theorems.specs.Promises.{RoundPromises}
+use Rattle.theorems.proofs.Promises.{round-promises}
 use Rattle.snowgimmer.specs.Reports.{ofVerdict}
 use borrow.Author.Needs.{needs}
 use Rattle.snowgimmer.proofs.snowgimmer_round.Statement.{statement}
 use Rattle.snowgimmer.proofs.snowgimmer_round.Tie as tie
 
-round-requires : tie.Need-round-requires
-round-requires c κs = search needs
-
-verdict-report-requires : tie.Need-verdict-report-requires
-verdict-report-requires c κs = search needs
-
-stored-requires : tie.Need-stored-requires
-stored-requires c κs = search needs
-
-same-length : tie.Need-same-length
-same-length c = search needs
-
 returns : tie.Need-returns
 returns c =
-    let told = c .before .before .before .before in
-    let at = told .before .before in
-    (c .stored .ensures ∙ told .verdict-report .ensures ∙ ap ofVerdict (at .round .ensures .0), at .round .ensures .1)
+    let reported = c .before .before .before .before in
+    let at = reported .before .before in
+    let a = at .before .before .before .args in
+    let answered = at .round .ensures in
+    record {
+      tells = c .stored .ensures ∙ reported .verdict-report .ensures ∙ ap ofVerdict (answered .tells);
+      writes = answered .writes;
+      promises = subst (λ (o : List ℤ). RoundPromises (a .coefficients .now) (a .out .now) (C.round (a .coefficients .now) (a .out .now)) o) (sym (answered .writes)) (round-promises (a .coefficients .now) (a .out .now));
+    }
 
 pub snowgimmer-round-spec : {M : Type 1} → statement M
 snowgimmer-round-spec =
-    tie.close (tie.spec round-requires verdict-report-requires stored-requires same-length returns)
+    tie.close
+    (tie.spec
+    (λ c κs. search needs)
+    (λ c κs. search needs)
+    (λ c κs. search needs)
+    (λ c. search needs)
+    returns)

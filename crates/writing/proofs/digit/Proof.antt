@@ -7,22 +7,10 @@ use borrow.Author.Tests.{lt-ltb, le-ltb}
 use Rattle.writing.proofs.digit.Statement.{statement}
 use Rattle.writing.proofs.digit.Tie as tie
 
-cast-result : tie.Need-cast-result
-cast-result c = search needs
-
-add-result : tie.Need-add-result
-add-result c = search needs
-
 returns : tie.Need-returns
 returns c =
     let d = c .before .args .d in
     sym (ap (λ (b : Bool). cond b (48 + d) (55 + d)) (lt-ltb d 10 (c .if1 .taken)))
-
-cast-result-2 : tie.Need-cast-result-2
-cast-result-2 c = search needs
-
-add-result-2 : tie.Need-add-result-2
-add-result-2 c = search needs
 
 returns-2 : tie.Need-returns-2
 returns-2 c =
@@ -30,4 +18,12 @@ returns-2 c =
     sym (ap (λ (b : Bool). cond b (48 + d) (55 + d)) (le-ltb d 10 (c .if1 .left)))
 
 pub digit-spec : {M : Type 1} → statement M
-digit-spec = tie.close (tie.spec cast-result add-result returns cast-result-2 add-result-2 returns-2)
+digit-spec =
+    tie.close
+    (tie.spec
+    (λ c. search needs)
+    (λ c. search needs)
+    returns
+    (λ c. search needs)
+    (λ c. search needs)
+    returns-2)

@@ -1,49 +1,38 @@
 -- `hexadecimal`: the digits are those of the double's bits. Assumes nothing.
-use mathlib.Core.Path.{_∙_, ap}
-use mathlib.Core.List.{List, []}
-use Prim.Native.Nat.{ℕ, _+_}
+use mathlib.Core.Path.{_∙_, ap, sym}
+use mathlib.Core.List.{[]}
+use Prim.Native.Nat.{ℕ}
 use native.Mathlib.Omega.{arith}
 use borrow.Author.Needs.{needs}
 use lib.ListN.{length}
 use Rattle.definitions.specs.JobText.{hexadecimalBefore}
-use Rattle.writing.specs.Over.{over}
-use Rattle.writing.proofs.Hexadecimals.{double-digits}
+use Rattle.writing.specs.Sizes.{hexadecimalSize}
+use Rattle.writing.proofs.Texts.{written-as}
+use Rattle.writing.proofs.Hexadecimals.{double-digits, digits-length}
 use Rattle.writing.proofs.hexadecimal.Statement.{statement}
 use Rattle.writing.proofs.hexadecimal.Tie as tie
 
-to-bits-requires : tie.Need-to-bits-requires
-to-bits-requires c κs = search needs
-
-hexadecimal-digits-requires : tie.Need-hexadecimal-digits-requires
-hexadecimal-digits-requires c κs = search needs
-
 slice-aggregate-put : tie.Need-slice-aggregate-put
-slice-aggregate-put c = search needs
+slice-aggregate-put c = sym (ap length (c .before .before .hexadecimal-digits .ensures) ∙ digits-length (c .before .before .before .before .to-bits .result))
 
 put-requires : tie.Need-put-requires
-put-requires c κs = search needs
-
-same-length : tie.Need-same-length
-same-length c = search needs
+put-requires c κs = let all = slice-aggregate-put c in omega arith
 
 returns : tie.Need-returns
 returns c =
     let p = c .before .before in
     let d = p .before .before .before in
     let b = d .before .before in
-    let a = b .before .before .args in
-    let text = d .hexadecimal-digits .ensures .1 ∙ ap (λ (n : ℕ). hexadecimalBefore 16 n []) (b .to-bits .ensures) ∙ double-digits (a .x) in
-    let whole = d .hexadecimal-digits .ensures .0 in
-    let w = p .put .ensures in
-    (w .0 ∙ ap (λ (t : List ℕ). a .at + length t) text, (omega (arith, w .0), w .1 ∙ ap (over (a .out .now) (a .at)) text))
+    let text = d .hexadecimal-digits .ensures ∙ ap (λ (n : ℕ). hexadecimalBefore hexadecimalSize n []) (b .to-bits .ensures) ∙ double-digits _ in
+    written-as (p .put .ensures) text (omega (arith, ap length (d .hexadecimal-digits .ensures), digits-length (b .to-bits .result)))
 
 pub hexadecimal-spec : {M : Type 1} → statement M
 hexadecimal-spec =
     tie.close
     (tie.spec
-    to-bits-requires
-    hexadecimal-digits-requires
+    (λ c κs. search needs)
+    (λ c κs. search needs)
     slice-aggregate-put
     put-requires
-    same-length
+    (λ c. search needs)
     returns)

@@ -1,15 +1,12 @@
 -- `signed_decimal`: std's laws say that each step to a magnitude is defined. Assumes nothing.
 use mathlib.Core.Path.{ap, _∙_}
-use mathlib.Core.List.{[], _∷_}
-use Prim.Native.Nat.{_≤_}
 use native.Mathlib.Omega.{arith}
 use borrow.Author.Needs.{needs}
 use lib.Dec.{lit≤}
-use lib.ListN.{length}
 use mir.Syntax.{w64}
 use Rattle.std.proofs.num.Nearest.{Plain, Turned, plain, turn}
 use Rattle.definitions.specs.JobText.{signedDecimal}
-use Rattle.writing.proofs.Over.{written-none, written-then, written-as}
+use Rattle.writing.proofs.Texts.{written-then, written-as}
 use Rattle.writing.proofs.Signs.{not-negative, negative}
 use Rattle.writing.proofs.signed_decimal.Statement.{statement}
 use Rattle.writing.proofs.signed_decimal.Tie as tie
@@ -23,26 +20,11 @@ below c = turn w64 (c .before .before .args .z) (lit≤ tt) (c .before .before .
 cast-decimal : tie.Need-cast-decimal
 cast-decimal c = not-below (c .before) .0
 
-decimal-requires : tie.Need-decimal-requires
-decimal-requires c κs = search needs
-
-same-length : tie.Need-same-length
-same-length c = search needs
-
 returns : tie.Need-returns
 returns c =
     let d = c .before .before in
     let t = d .before .before in
-    let a = t .before .before .args in
-    let e = d .decimal .ensures in
-    let p = not-below t .1 in
-    written-as (a .out .now) (a .at) 21 (not-negative _ ∙ ap signedDecimal p) (omega (arith, e .0, e .1 .0)) (e .0) (e .1 .1)
-
-slice-aggregate-put : tie.Need-slice-aggregate-put
-slice-aggregate-put c = search needs
-
-put-requires : tie.Need-put-requires
-put-requires c κs = search needs
+    written-as (d .decimal .ensures) (not-negative _ ∙ ap signedDecimal (not-below t .1)) (omega arith)
 
 add-decimal : tie.Need-add-decimal
 add-decimal c = below (c .before .before .before .before .before .before) .0
@@ -56,40 +38,29 @@ cast-decimal-2 c = below (c .before .before .before .before .before .before) .2
 add-decimal-2 : tie.Need-add-decimal-2
 add-decimal-2 c = below (c .before .before .before .before .before .before) .3
 
-decimal-requires-2 : tie.Need-decimal-requires-2
-decimal-requires-2 c κs = search needs
-
-same-length-2 : tie.Need-same-length-2
-same-length-2 c = search needs
-
 returns-2 : tie.Need-returns-2
 returns-2 c =
     let d = c .before .before in
     let p = d .before .before .before .before in
     let t = p .before .before .before in
     let s = t .before .before in
-    let a = s .args in
     let b = below t in
-    let h : a .at ≤ length (a .out .now) = omega arith in
-    let e = d .decimal2 .ensures in
-    let minus = written-then (45 ∷ []) h (written-none (a .out .now) (a .at)) (p .put .ensures .0) (p .put .ensures .1) in
-    let w = written-then _ h minus (e .0) (e .1 .1) in
-    written-as (a .out .now) (a .at) 21 (negative (a .z) (s .fits .z) (b .0) (b .1) (t .if1 .left)) (omega (arith, e .0, e .1 .0)) (w .index) (w .bytes)
+    written-as (written-then (p .put .ensures) (d .decimal2 .ensures)) (negative (s .args .z) (s .fits .z) (b .0) (b .1) (t .if1 .left)) (omega arith)
 
 pub signed-decimal-spec : {M : Type 1} → statement M
 signed-decimal-spec =
     tie.close
     (tie.spec
     cast-decimal
-    decimal-requires
-    same-length
+    (λ c κs. search needs)
+    (λ c. search needs)
     returns
-    slice-aggregate-put
-    put-requires
+    (λ c. search needs)
+    (λ c κs. search needs)
     add-decimal
     sub-decimal
     cast-decimal-2
     add-decimal-2
-    decimal-requires-2
-    same-length-2
+    (λ c κs. search needs)
+    (λ c. search needs)
     returns-2)

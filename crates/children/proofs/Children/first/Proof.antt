@@ -1,25 +1,21 @@
 -- `Children::first` is the zigzag's first child. Assumes nothing.
 use mathlib.Core.Path.{refl, sym, ap, _∙_}
-use mir.Syntax.{w64}
-use mir.ValLaws.{toZ-ofZ}
 use Rattle.definitions.proofs.Zigzags.{next-first}
 use Rattle.children.specs.View.{zigzag, trialOf, childOf}
+use Rattle.children.proofs.Outcomes.{nearest-is}
 use Rattle.children.proofs.Steps.{answer}
 use borrow.Author.Needs.{needs}
 use Rattle.children.proofs.Children.first.Statement.{statement}
 use Rattle.children.proofs.Children.first.Tie as tie
-
-trial-of-requires : tie.Need-trial-of-requires
-trial-of-requires c κs = search needs
 
 returns : tie.Need-returns
 returns c =
     let b = c .before in
     let a = b .before .before in
     let self = a .args .self in
-    let same = toZ-ofZ w64 (self .nearest) (record { sfits = b .before .struct-told .given .1 .1 .1 .0 .1 }) in
+    let same = nearest-is (b .before .struct-told .given) in
     answer self (self .step) (self .«positive_done») (self .«negative_done») (b .trial-of .ensures ∙ ap (trialOf (self .weight) (self .center)) same) same refl
     ∙ ap childOf (sym (next-first (zigzag self) (a .pre)))
 
 pub first-spec : {M : Type 1} → statement M
-first-spec = tie.close (tie.spec trial-of-requires returns)
+first-spec = tie.close (tie.spec (λ c κs. search needs) returns)

@@ -11,13 +11,10 @@ use Rattle.definitions.specs.Distance.{term}
 use Rattle.definitions.specs.Zigzag.{open-level, no-children, start}
 use Rattle.definitions.proofs.Zigzags.{startAt, start-is}
 use Rattle.children.specs.declared.Level.the-variants.{Open}
-use Rattle.children.specs.View.{children, levelOf}
+use Rattle.children.specs.View.{generatorOf, levelOf}
 use Rattle.children.proofs.Terms.{term-at}
 use Rattle.children.proofs.Children.new.Statement.{statement}
 use Rattle.children.proofs.Children.new.Tie as tie
-
-rounded-away-requires : tie.Need-rounded-away-requires
-rounded-away-requires c κs = search needs
 
 term-requires : tie.Need-term-requires
 term-requires c κs = search needs
@@ -26,7 +23,7 @@ term-requires c κs = search needs
 decided : (c : tie.After-term) (passed : Bool) → let a = c .before .before .args in le (c .term .result) (a .remaining) ≡ passed → start (a .center) (a .remaining) (a .weight) ≡ cond passed (open-level (startAt (a .center) (a .remaining) (a .weight) (roundAway (a .center)))) no-children
 decided c passed t =
     let a = c .before .before .args in
-    let e : c .term .result ≡ term (a .weight) (a .center) (roundAway (a .center)) = c .term .ensures ∙ term-at _ _ _ (roundAway (a .center)) (c .before .rounded-away .ensures .1) in
+    let e : c .term .result ≡ term (a .weight) (a .center) (roundAway (a .center)) = c .term .ensures ∙ term-at _ _ _ (roundAway (a .center)) (c .before .rounded-away .ensures .double) in
     start-is (a .center) (a .remaining) (a .weight)
     ∙ ap (λ (b : Bool). cond b (open-level (startAt (a .center) (a .remaining) (a .weight) (roundAway (a .center)))) no-children) (ap (λ (x : Float). le x (a .remaining)) (sym e) ∙ t)
 
@@ -35,12 +32,12 @@ returns c =
     let t = c .before .before in
     let n = t .before .rounded-away in
     let a = t .before .before .args in
-    let m = toZ-ofZ w64 (n .result .integer) (record { sfits = c .struct-told .given .0 .1 }) ∙ n .ensures .0 in
-    ap (λ (z : ℤ). Open (children (startAt (a .center) (a .remaining) (a .weight) z))) m
+    let m = toZ-ofZ w64 (n .result .integer) (record { sfits = c .struct-told .given .0 .1 }) ∙ n .ensures .integer in
+    ap (λ (z : ℤ). Open (generatorOf (startAt (a .center) (a .remaining) (a .weight) z))) m
     ∙ ap levelOf (sym (decided t true (c .before .if1 .taken)))
 
 returns-2 : tie.Need-returns-2
 returns-2 c = ap levelOf (sym (decided (c .before) false (c .if1 .left)))
 
 pub new-spec : {M : Type 1} → statement M
-new-spec = tie.close (tie.spec rounded-away-requires term-requires returns returns-2)
+new-spec = tie.close (tie.spec (λ c κs. search needs) term-requires returns returns-2)

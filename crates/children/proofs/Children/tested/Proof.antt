@@ -16,27 +16,18 @@ use Rattle.children.specs.declared.Moved.{Moved}
 use Rattle.children.specs.declared.Moved.the-variants.{In, Out}
 use Rattle.children.specs.declared.Tested.the-variants.{Passed, Failed}
 use Rattle.children.specs.View.{zigzag, trialOf, movedOf, testedOf}
-use Rattle.children.proofs.Outcomes.{in-of, out-of}
+use Rattle.children.proofs.Outcomes.{nearest-is, in-of, out-of}
 use Rattle.children.proofs.Children.tested.Statement.{statement}
 use Rattle.children.proofs.Children.tested.Tie as tie
-
-candidate-requires : tie.Need-candidate-requires
-candidate-requires c κs = search needs
-
-enum-known-z : tie.Need-enum-known-z
-enum-known-z c = search needs
-
-enum-told : tie.Need-enum-told
-enum-told c = search needs
 
 module _ (self : Children) (magnitude : ℕ) (up : Bool) where
   -- the candidate
   abbrev moved : ℤ → ℤ
   moved m = cond up (m +ℤ pos magnitude) (m -ℤ pos magnitude)
 
-  module _ (x : Moved) (fits : SFits w64 (self .nearest)) (given : x ≡ movedOf (moved (toZ w64 (ofZ w64 (self .nearest))))) where
+  module _ (x : Moved) (same : toZ w64 (ofZ w64 (self .nearest)) ≡ self .nearest) (given : x ≡ movedOf (moved (toZ w64 (ofZ w64 (self .nearest))))) where
     is-moved : x ≡ movedOf (moved (self .nearest))
-    is-moved = given ∙ ap (λ (m : ℤ). movedOf (moved m)) (toZ-ofZ w64 (self .nearest) fits)
+    is-moved = given ∙ ap (λ (m : ℤ). movedOf (moved m)) same
 
     out : x ≡ Out → Failed ≡ testedOf (zigzag self) (moved (self .nearest))
     out e =
@@ -59,10 +50,7 @@ returns : tie.Need-returns
 returns c =
     let b = c .before .before in
     let a = b .before .before .args in
-    out (a .self) (a .magnitude) (a .positive) (b .candidate .result) (record { sfits = b .before .struct-told .given .1 .1 .1 .0 .1 }) (b .candidate .ensures) (c .enum-told .given .1)
-
-trial-of-requires : tie.Need-trial-of-requires
-trial-of-requires c κs = search needs
+    out (a .self) (a .magnitude) (a .positive) (b .candidate .result) (nearest-is (b .before .struct-told .given)) (b .candidate .ensures) (c .enum-told .given .1)
 
 -- the test of the code
 decided : (c : tie.After-trial-of) (passed : Bool) → let a = c .before .before .before .before .before .before .args in le (c .trial-of .result .term) (a .self .remaining) ≡ passed → cond passed (Passed (c .trial-of .result)) Failed ≡ testedOf (zigzag (a .self)) (moved (a .self) (a .magnitude) (a .positive) (a .self .nearest))
@@ -70,7 +58,7 @@ decided c =
     let k = c .before in
     let b = k .before .before .before in
     let a = b .before .before .args in
-    by-test (a .self) (a .magnitude) (a .positive) (b .candidate .result) (record { sfits = b .before .struct-told .given .1 .1 .1 .0 .1 }) (b .candidate .ensures)
+    by-test (a .self) (a .magnitude) (a .positive) (b .candidate .result) (nearest-is (b .before .struct-told .given)) (b .candidate .ensures)
     (k .before .z .given .0 .0) (k .before .z .given .1) (record { sfits = k .known-told .given .0 .1 }) (c .trial-of .result) (c .trial-of .ensures)
 
 returns-2 : tie.Need-returns-2
@@ -83,10 +71,10 @@ pub tested-spec : {M : Type 1} → statement M
 tested-spec =
     tie.close
     (tie.spec
-    candidate-requires
-    enum-known-z
-    enum-told
+    (λ c κs. search needs)
+    (λ c. search needs)
+    (λ c. search needs)
     returns
-    trial-of-requires
+    (λ c κs. search needs)
     returns-2
     returns-3)

@@ -8,7 +8,7 @@ use lib.Seq.{take-all}
 use lib.Ieee.{Float, nan}
 use borrow.Author.Needs.{needs, scaled-fits}
 use Rattle.definitions.specs.Calls.{written}
-use Rattle.sorting.proofs.Each.{at-place}
+use Rattle.lists.proofs.Each.{at-place}
 use Rattle.listing.proofs.Writing.{written-more, mapped-more, mapped-length}
 use Rattle.listing.proofs.output.write_distances.Statement.{statement}
 use Rattle.listing.proofs.output.write_distances.Tie as tie
@@ -22,31 +22,13 @@ abbrev μ-loop : tie.MeasureT-loop
 loop-holds : tie.Need-loop-holds Inv-loop μ-loop
 loop-holds c = (omega arith, refl, refl)
 
-mul-place : tie.Need-mul-place Inv-loop μ-loop
-mul-place c = search needs
-
-shared-slice-read-place : tie.Need-shared-slice-read-place Inv-loop μ-loop
-shared-slice-read-place c = search needs
-
 mul-distances : tie.Need-mul-distances Inv-loop μ-loop
 mul-distances c =
     let b = c .before .before .before in
-    scaled-fits _ (length (b .args .found .now)) 8 (at-place (c .before .before .loop .i) 0 (b .pre .1) (omega arith)) (search needs)
+    scaled-fits _ (length (b .args .found .now)) 8 (at-place (c .before .before .loop .i) 0 (b .pre .below) (omega arith)) (search needs)
 
 shared-slice-read-distances : tie.Need-shared-slice-read-distances Inv-loop μ-loop
-shared-slice-read-distances c = at-place (c .before .before .before .loop .i) 0 (c .before .before .before .before .pre .1) (omega arith)
-
-mul-distances-2 : tie.Need-mul-distances-2 Inv-loop μ-loop
-mul-distances-2 c = search needs
-
-slice-write-distances : tie.Need-slice-write-distances Inv-loop μ-loop
-slice-write-distances c = search needs
-
-add-i : tie.Need-add-i Inv-loop μ-loop
-add-i c = search needs
-
-loop-less : tie.Need-loop-less Inv-loop μ-loop
-loop-less c = search needs
+shared-slice-read-distances c = at-place (c .before .before .before .loop .i) 0 (c .before .before .before .before .pre .below) (omega arith)
 
 loop-again : tie.Need-loop-again Inv-loop μ-loop
 loop-again c =
@@ -62,9 +44,6 @@ loop-again c =
           ∙ ap (λ (ds : List Float). written ds (a .distances .now)) (sym (mapped-more f (a .order .now) i 0 (omega arith))),
     )
 
-same-length : tie.Need-same-length Inv-loop μ-loop
-same-length c = search needs
-
 returns : tie.Need-returns Inv-loop μ-loop
 returns c =
     let l = c .before in
@@ -78,14 +57,14 @@ write-distances-spec =
     Inv-loop
     μ-loop
     loop-holds
-    mul-place
-    shared-slice-read-place
+    (λ c. search needs)
+    (λ c. search needs)
     mul-distances
     shared-slice-read-distances
-    mul-distances-2
-    slice-write-distances
-    add-i
-    loop-less
+    (λ c. search needs)
+    (λ c. search needs)
+    (λ c. search needs)
+    (λ c. search needs)
     loop-again
-    same-length
+    (λ c. search needs)
     returns)

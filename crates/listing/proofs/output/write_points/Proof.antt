@@ -3,17 +3,18 @@ use mathlib.Core.Path.{_≡_, refl, ap, sym, _∙_}
 use mathlib.Core.List.{List, [], map}
 use Prim.Native.Nat.{ℕ, _+_, _*_, _≤_, _-_}
 use native.Mathlib.Omega.{arith}
-use lib.ListN.{length, getD, take, drop, length-drop}
-use lib.Seq.{paste, take-all, length-take-le, length-paste}
+use lib.ListN.{length, getD, take, length-take, length-drop}
+use lib.Seq.{take-all, length-take-le}
 use lib.IntN.{ℤ}
 use borrow.Author.Needs.{needs}
 use Rattle.definitions.specs.Listing.{ListPoint}
 use Rattle.definitions.specs.Calls.{written, coordinates}
 use Rattle.definitions.proofs.Answers.{coordinates-nil}
-use Rattle.sorting.specs.Rows.{row}
-use Rattle.sorting.proofs.Each.{at-place, all-take}
-use Rattle.sorting.proofs.Places.{row-within}
-use Rattle.listing.proofs.Writing.{written-run, mapped-more}
+use Rattle.definitions.specs.Rows.{row}
+use Rattle.lists.specs.Over.{over}
+use Rattle.lists.proofs.Each.{at-place, all-take}
+use Rattle.sorting.proofs.Comparison.{row-within}
+use Rattle.listing.proofs.Writing.{written-run, row-copied, mapped-more}
 use Rattle.listing.proofs.Coordinates.{coordinates-more, coordinates-alone, coordinates-count}
 use Rattle.listing.proofs.output.write_points.Statement.{statement}
 use Rattle.listing.proofs.output.write_points.Tie as tie
@@ -27,12 +28,6 @@ abbrev μ-loop : tie.MeasureT-loop
 loop-holds : tie.Need-loop-holds Inv-loop μ-loop
 loop-holds c = (omega arith, refl, sym (ap (λ (l : List ℤ). written l (c .before .args .points .now)) coordinates-nil))
 
-mul-place : tie.Need-mul-place Inv-loop μ-loop
-mul-place c = search needs
-
-shared-slice-read-place : tie.Need-shared-slice-read-place Inv-loop μ-loop
-shared-slice-read-place c = search needs
-
 -- the row of the place that is written
 place-within : (c : tie.After-shared-slice-known2 Inv-loop μ-loop) →
     let l = c .before .before in
@@ -41,61 +36,68 @@ place-within : (c : tie.After-shared-slice-known2 Inv-loop μ-loop) →
 place-within c =
     let l = c .before .before in
     let b = l .before .before in
-    row-within (b .args .n) (length (b .args .order .now)) (length (b .args .found .now)) _ (b .pre .0) (at-place (l .loop .i) 0 (b .pre .1 .1) (omega arith))
+    row-within (b .args .n) (length (b .args .order .now)) (length (b .args .found .now)) _ (b .pre .found-length) (at-place (l .loop .i) 0 (b .pre .below) (omega arith))
 
 -- and the row that it goes to
 row-in : (c : tie.After-shared-slice-known2 Inv-loop μ-loop) →
     let l = c .before .before in
     let a = l .before .before .args in
-    l .loop .i * a .n + a .n ≤ length (a .found .now)
+    l .loop .i * a .n + a .n ≤ length (l .loop .points)
 row-in c =
     let l = c .before .before in
     let b = l .before .before in
-    row-within (b .args .n) (length (b .args .order .now)) (length (b .args .found .now)) (l .loop .i) (b .pre .0) (omega arith)
+    omega (arith, row-within (b .args .n) (length (b .args .order .now)) (length (b .args .found .now)) (l .loop .i) (b .pre .found-length) (omega arith), l .loop .inv .1, b .pre .found-fits)
 
-mul-write-row : tie.Need-mul-write-row Inv-loop μ-loop
-mul-write-row c = omega (arith, place-within c)
+mul-from-2 : tie.Need-mul-from-2 Inv-loop μ-loop
+mul-from-2 c = omega (arith, place-within c)
 
-mul-write-row-2 : tie.Need-mul-write-row-2 Inv-loop μ-loop
-mul-write-row-2 c = omega (arith, row-in c)
+add-from-end : tie.Need-add-from-end Inv-loop μ-loop
+add-from-end c = omega (arith, place-within c)
 
-write-row-requires : tie.Need-write-row-requires Inv-loop μ-loop
-write-row-requires c κs =
-    let at = c .before in
-    (place-within at, omega (arith, row-in at, at .before .before .loop .inv .1, at .before .before .before .before .pre .1 .0))
+mul-to : tie.Need-mul-to Inv-loop μ-loop
+mul-to c = omega (arith, row-in c)
 
-add-i : tie.Need-add-i Inv-loop μ-loop
-add-i c = search needs
+add-to-end : tie.Need-add-to-end Inv-loop μ-loop
+add-to-end c = omega (arith, row-in c)
 
-loop-less : tie.Need-loop-less Inv-loop μ-loop
-loop-less c = search needs
+mul-copy-i64 : tie.Need-mul-copy-i64 Inv-loop μ-loop
+mul-copy-i64 c = omega (arith, place-within c)
+
+part-copy-i64-end : tie.Need-part-copy-i64-end Inv-loop μ-loop
+part-copy-i64-end c = omega (arith, place-within c)
+
+mul-copy-i64-2 : tie.Need-mul-copy-i64-2 Inv-loop μ-loop
+mul-copy-i64-2 c = omega (arith, row-in (c .before))
+
+part-copy-i64-end-2 : tie.Need-part-copy-i64-end-2 Inv-loop μ-loop
+part-copy-i64-end-2 c = omega (arith, row-in (c .before))
+
+copy-i64-requires : tie.Need-copy-i64-requires Inv-loop μ-loop
+copy-i64-requires c κs = let h = place-within (c .before .before) in simp (length-take, length-drop) (omega arith)
 
 loop-again : tie.Need-loop-again Inv-loop μ-loop
 loop-again c =
-    let at = c .before .before .before in
+    let v = c .before in
+    let at = v .before .before .before in
     let l = at .before .before in
     let b = l .before .before in
     let a = b .args in
     let i = l .loop .i in
     let place = getD (a .order .now) i 0 in
-    let src = drop (place * a .n) (a .found .now) in
-    let long : a .n ≤ length src = omega (arith, length-drop (place * a .n) (a .found .now), place-within at) in
     let f : ℕ → ListPoint = row (a .n) [] (a .found .now) in
     let xs = coordinates (map f (take i (a .order .now))) in
     let count : length xs ≡ i * a .n =
-    coordinates-count (a .n) (a .found .now) [] (length (a .order .now)) (b .pre .0) (all-take i (b .pre .1 .1))
+    coordinates-count (a .n) (a .found .now) [] (length (a .order .now)) (b .pre .found-length) (all-take i (b .pre .below))
     ∙ ap (λ (k : ℕ). k * a .n) (length-take-le i (a .order .now) (l .loop .inv .0))
-    in (
+    in
+    let copied = row-copied (l .loop .points) (a .found .now) (i * a .n) (place * a .n) (a .n) (v .copy-i64 .last .1 .0) (row-in at) (place-within at) (v .copy-i64 .ensures) in (
       omega arith,
-      ap (λ (ps : List ℤ). length ps) (c .before .write-row .ensures) ∙ length-paste (l .loop .points) (i * a .n) src (a .n) (omega (arith, row-in at, l .loop .inv .1, b .pre .1 .0)) long ∙ l .loop .inv .1,
-      c .before .write-row .ensures
-          ∙ ap (λ (ps : List ℤ). paste ps (i * a .n) src (a .n)) (l .loop .inv .2)
-          ∙ written-run xs src (a .points .now) (i * a .n) (a .n) count long
+      ap (λ (ps : List ℤ). length ps) (copied .0) ∙ copied .1 ∙ l .loop .inv .1,
+      copied .0
+          ∙ ap (λ (ps : List ℤ). over ps (i * a .n) (f place .point)) (l .loop .inv .2)
+          ∙ written-run xs (f place .point) (a .points .now) (i * a .n) count
           ∙ ap (λ (ps : List ℤ). written ps (a .points .now)) (sym (ap coordinates (mapped-more f (a .order .now) i 0 (omega arith)) ∙ coordinates-more (map f (take i (a .order .now))) (f place))),
     )
-
-same-length : tie.Need-same-length Inv-loop μ-loop
-same-length c = search needs
 
 returns : tie.Need-returns Inv-loop μ-loop
 returns c ds =
@@ -112,13 +114,23 @@ write-points-spec =
     Inv-loop
     μ-loop
     loop-holds
-    mul-place
-    shared-slice-read-place
-    mul-write-row
-    mul-write-row-2
-    write-row-requires
-    add-i
-    loop-less
+    (λ c. search needs)
+    (λ c. search needs)
+    mul-from-2
+    add-from-end
+    mul-to
+    add-to-end
+    mul-copy-i64
+    (λ c. search needs)
+    (λ c. search needs)
+    part-copy-i64-end
+    mul-copy-i64-2
+    (λ c. search needs)
+    (λ c. search needs)
+    part-copy-i64-end-2
+    copy-i64-requires
+    (λ c. search needs)
+    (λ c. search needs)
     loop-again
-    same-length
+    (λ c. search needs)
     returns)

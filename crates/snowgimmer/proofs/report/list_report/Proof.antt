@@ -2,7 +2,7 @@
 use mathlib.Core.Path.{ap, sym, _∙_}
 use lib.Ieee.{ofBits}
 use Rattle.listing.specs.declared.ListAnswer.{ListAnswer}
-use Rattle.listing.specs.View.{answerOf}
+use Rattle.listing.specs.View.{listAnswer}
 use Rattle.snowgimmer.specs.Reports.{ofCounts}
 use borrow.Author.Needs.{needs}
 use Rattle.snowgimmer.proofs.report.list_report.Statement.{statement}
@@ -16,7 +16,7 @@ told-requires c κs = search needs
 
 returns : tie.Need-returns
 unfolding ofBits
-returns c = c .told .ensures ∙ sym (ap (λ (a : ListAnswer). ofCounts (answerOf a)) (c .before .before .answer .given .1))
+returns c = c .told .ensures ∙ sym (ap (λ (a : ListAnswer). ofCounts (listAnswer a)) (c .before .before .answer .given .1))
 
 enum-known-answer-2 : tie.Need-enum-known-answer-2
 enum-known-answer-2 c = search needs
@@ -25,7 +25,7 @@ refusal-report-requires : tie.Need-refusal-report-requires
 refusal-report-requires c κs = search needs
 
 returns-2 : tie.Need-returns-2
-returns-2 c = c .refusal-report .ensures ∙ sym (ap (λ (a : ListAnswer). ofCounts (answerOf a)) (c .before .before .answer2 .given .1))
+returns-2 c = c .refusal-report .ensures ∙ sym (ap (λ (a : ListAnswer). ofCounts (listAnswer a)) (c .before .before .answer2 .given .1))
 
 pub list-report-spec : {M : Type 1} → statement M
 list-report-spec =

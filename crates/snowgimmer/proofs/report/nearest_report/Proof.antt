@@ -2,7 +2,7 @@
 use mathlib.Core.Path.{ap, sym, _∙_}
 use lib.Ieee.{ofBits}
 use Rattle.enumerate.specs.declared.NearestAnswer.{NearestAnswer}
-use Rattle.enumerate.specs.View.{answerOf}
+use Rattle.enumerate.specs.View.{nearestAnswer}
 use Rattle.snowgimmer.specs.Reports.{ofNearest}
 use borrow.Author.Needs.{needs}
 use Rattle.snowgimmer.proofs.report.nearest_report.Statement.{statement}
@@ -16,7 +16,7 @@ told-requires c κs = search needs
 
 returns : tie.Need-returns
 unfolding ofBits
-returns c = λ out. c .told .ensures ∙ sym (ap (λ (a : NearestAnswer). ofNearest (answerOf a out)) (c .before .before .answer .given .1))
+returns c = λ out. c .told .ensures ∙ sym (ap (λ (a : NearestAnswer). ofNearest (nearestAnswer a out)) (c .before .before .answer .given .1))
 
 enum-known-answer-2 : tie.Need-enum-known-answer-2
 enum-known-answer-2 c = search needs
@@ -25,7 +25,7 @@ refusal-report-requires : tie.Need-refusal-report-requires
 refusal-report-requires c κs = search needs
 
 returns-2 : tie.Need-returns-2
-returns-2 c = λ out. c .refusal-report .ensures ∙ sym (ap (λ (a : NearestAnswer). ofNearest (answerOf a out)) (c .before .before .answer2 .given .1))
+returns-2 c = λ out. c .refusal-report .ensures ∙ sym (ap (λ (a : NearestAnswer). ofNearest (nearestAnswer a out)) (c .before .before .answer2 .given .1))
 
 pub nearest-report-spec : {M : Type 1} → statement M
 nearest-report-spec =

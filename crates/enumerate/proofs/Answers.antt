@@ -1,0 +1,28 @@
+-- What a nearest search answers and leaves, by its walk or by a refusal of its checks. Assumes nothing.
+use mathlib.Core.Path.{_≡_, ap, sym, _∙_, subst}
+use mathlib.Core.List.{List}
+use lib.IntN.{ℤ}
+use Rattle.definitions.specs.Walk.{Walked, ended, exhausted}
+use Rattle.definitions.specs.Nearest.{Best, no-best, best}
+use Rattle.definitions.specs.Refusals.{Refusal, budgetExhausted}
+use Rattle.definitions.specs.Calls.{Answer, refused, NearestPoint, endOfNearest, nearestOutput}
+use Rattle.definitions.proofs.Answers.{end-exhausted, end-nothing, end-point, output-found, output-refused}
+use Rattle.refusals.specs.Numbers.{numbered}
+use Rattle.refusals.specs.declared.Refusal.{Refusal as CodeRefusal}
+use Rattle.enumerate.specs.declared.NearestAnswer.{NearestAnswer}
+use Rattle.enumerate.specs.declared.NearestAnswer.the-variants.{Refused}
+use Rattle.enumerate.specs.View.{walkOutput, NearestAnswered}
+
+-- a walk's end leaves what its answer does
+pub output-walked : (none : Refusal) (w : Walked Best) (out : List ℤ) → walkOutput w out ≡ nearestOutput (endOfNearest none w) out
+output-walked none (exhausted m R) out = sym (ap (λ (a : Answer NearestPoint). nearestOutput a out) (end-exhausted none m R) ∙ output-refused (budgetExhausted m R) out)
+output-walked none (ended no-best R m) out = sym (ap (λ (a : Answer NearestPoint). nearestOutput a out) (end-nothing none R m) ∙ output-refused none out)
+output-walked none (ended (best zs) R m) out = sym (ap (λ (a : Answer NearestPoint). nearestOutput a out) (end-point none zs R m) ∙ output-found (record { nodes = m; point = zs }) out)
+
+-- a refusal leaves the slice
+pub answered-refused : {a : Answer NearestPoint} (e : CodeRefusal) (out : List ℤ) → a ≡ refused (numbered e) → NearestAnswered a out (Refused e) out
+answered-refused e out q = record { tells = sym q; writes = sym (ap (λ (x : Answer NearestPoint). nearestOutput x out) q ∙ output-refused (numbered e) out) }
+
+-- an answer by another name
+pub answered-as : {a b : Answer NearestPoint} {out out′ : List ℤ} {r : NearestAnswer} → a ≡ b → NearestAnswered a out r out′ → NearestAnswered b out r out′
+answered-as {a} {b} {out} {out′} {r} e = subst (λ (x : Answer NearestPoint). NearestAnswered x out r out′) e

@@ -1,0 +1,26 @@
+-- `nearest_within` meets its contract: its answer is that of its walk's end. Assumes nothing.
+use mathlib.Core.Path.{ap, _∙_}
+use Rattle.definitions.specs.Table.{table}
+use Rattle.definitions.specs.Nearest.{nearestWalk}
+use Rattle.definitions.specs.Calls.{endOfNearest}
+use Rattle.refusals.specs.Numbers.{numbered}
+use Rattle.enumerate.proofs.Answers.{output-walked}
+use borrow.Author.Needs.{needs}
+use Rattle.enumerate.proofs.nearest_within.Statement.{statement}
+use Rattle.enumerate.proofs.nearest_within.Tie as tie
+
+returns : tie.Need-returns
+returns c =
+    let at = c .before .before in
+    let a = at .before .before .before .before .before .args in
+    let none = numbered (a .none) in
+    let walked = at .nearest-walk .ensures in
+    record {
+      tells = c .answer-of .ensures _ ∙ ap (endOfNearest none) (walked .tells);
+      writes = walked .writes ∙ output-walked none (nearestWalk (table (a .weights .now) (a .mu .now)) (a .target .now) (a .radius) (a .budget)) (a .out .now);
+    }
+
+pub nearest-within-spec : {M : Type 1} → statement M
+nearest-within-spec =
+    tie.close
+    (tie.spec (λ c κs. search needs) (λ c κs. search needs) (λ c. search needs) returns)

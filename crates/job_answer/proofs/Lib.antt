@@ -1,0 +1,7 @@
+-- Laws that several proofs cite.
+pub mod Answers
+pub mod Inputs
+pub mod Jobs
+pub mod Ratios
+pub mod Lines
+pub mod Lists

@@ -1,0 +1,109 @@
+-- The text of a list out of the slices at exit is the text of the specification's list. Assumes nothing.
+use mathlib.Core.Path.{_≡_, refl, ap, sym, _∙_}
+use mathlib.Core.List.{List, [], _∷_, _++_, map, append-assoc}
+use Prim.Native.Nat.{ℕ, zero, suc, _+_, _*_, _≤_}
+use native.Mathlib.Nat.{suc-mul, zero-mul, add-comm}
+use native.Mathlib.Omega.{arith}
+use Prim.Native.String.{String}
+use lib.ListN.{length, getD, take, drop, length-append, length-drop, length-map}
+use lib.Seq.{take-at, drop-append-add}
+use lib.IntN.{ℤ}
+use lib.Ieee.{Float, nan}
+use Rattle.definitions.specs.Listing.{ListPoint}
+use Rattle.definitions.specs.Calls.{Answer, found, refused, written, coordinates, listDistances, listPoints}
+use Rattle.definitions.specs.Calls as C
+use Rattle.definitions.specs.Refusals.{Refusal}
+use Rattle.refusals.specs.Numbers.{numbered}
+use Rattle.definitions.specs.JobText.{text, newline, refusalLine, listLines, ratio, ratioLine}
+use Rattle.definitions.proofs.ListedOrder.{Listed}
+use Rattle.definitions.proofs.Answers.{found≢refused, refused-same}
+use Rattle.lists.specs.All.{All, more}
+use Rattle.definitions.specs.Rows.{row, rows}
+use Rattle.listing.specs.declared.ListAnswer.{ListAnswer}
+use Rattle.listing.specs.declared.ListAnswer.the-variants.{Found, Refused}
+use Rattle.listing.specs.View.{Counts, countsOf, listAnswer, ListAnswered}
+use Rattle.job_answer.specs.Texts.{listText, pointsOf, ratioBy, ratioText}
+
+-- ---- points that lie one after another
+module _ (n : ℕ) (p : ListPoint) (ds : List Float) (zs : List ℤ) (own : length (p .point) ≡ n) where
+  later : (i : ℕ) → row n (p .distance ∷ ds) (p .point ++ zs) (suc i) ≡ row n ds zs i
+  later i =
+      let there : suc i * n ≡ length (p .point) + i * n = suc-mul i n ∙ add-comm (i * n) n ∙ ap (λ (k : ℕ). k + i * n) (sym own) in
+      ap (λ (xs : List ℤ). record { distance = getD ds i nan; point = take n xs })
+      (ap (λ (k : ℕ). drop k (p .point ++ zs)) there ∙ drop-append-add (p .point) zs (i * n))
+
+  first : row n (p .distance ∷ ds) (p .point ++ zs) 0 ≡ p
+  first = ap (λ (xs : List ℤ). record { distance = p .distance; point = xs }) (ap (λ (k : ℕ). take n (drop k (p .point ++ zs))) (zero-mul n) ∙ take-at (p .point) zs n own)
+
+  rows-more : (k : ℕ) → rows n (suc k) (p .distance ∷ ds) (p .point ++ zs) ≡ p ∷ rows n k ds zs
+  unfolding rows
+  rows-more zero = ap (λ (q : ListPoint). q ∷ []) first
+  rows-more (suc k) = ap (λ (qs : List ListPoint). qs ++ row n (p .distance ∷ ds) (p .point ++ zs) (suc k) ∷ []) (rows-more k) ∙ ap (λ (q : ListPoint). p ∷ (rows n k ds zs ++ q ∷ [])) (later k)
+
+rows-back : (n : ℕ) (ps : List ListPoint) → All (Listed n) ps → (ds : List Float) (zs : List ℤ) → rows n (length ps) (map (λ (p : ListPoint). p .distance) ps ++ ds) (coordinates ps ++ zs) ≡ ps
+unfolding rows coordinates
+rows-back n [] all ds zs = refl
+rows-back n (p ∷ ps) (more l all) ds zs =
+    ap (λ (xs : List ℤ). rows n (suc (length ps)) (p .distance ∷ (map (λ (q : ListPoint). q .distance) ps ++ ds)) xs) (append-assoc (p .point) (coordinates ps) zs)
+    ∙ rows-more n p (map (λ (q : ListPoint). q .distance) ps ++ ds) (coordinates ps ++ zs) (l .coordinates) (length ps)
+    ∙ ap (λ (qs : List ListPoint). p ∷ qs) (rows-back n ps all ds zs)
+
+-- ---- the code's answer and the specification's
+abbrev countsIn : Answer Counts → Counts
+countsIn (found c) = c
+countsIn (refused e) = record { nodes = 0; points = 0 }
+
+module _ (ds : List Float) (zs : List ℤ) where
+  abbrev distancesOf : List ListPoint → List Float
+  distancesOf ps = written (map (λ (p : ListPoint). p .distance) ps) ds
+
+  lines : (n : ℕ) (answer : ListAnswer) (L : Answer C.ListAnswer) → listAnswer answer ≡ countsOf L → ((a : C.ListAnswer) → L ≡ found a → All (Listed n) (a .points)) → listText answer n (listDistances L ds) (listPoints L zs) ≡ listLines L
+  unfolding listLines listDistances listPoints
+  lines n (Found f) (found a) same all =
+      let nodes : f .nodes ≡ a .nodes = ap (λ (x : Answer Counts). countsIn x .nodes) same in
+      let count : f .points ≡ length (a .points) = ap (λ (x : Answer Counts). countsIn x .points) same in
+      let new = map (λ (p : ListPoint). p .distance) (a .points) in
+      let back = rows-back n (a .points) (all a refl) (drop (length new) ds) (drop (length (coordinates (a .points))) zs) in
+      cc
+  lines n (Found f) (refused e) same all = let z : _≡_ {A = ℕ} 0 1 = cc in absurd (omega arith)
+  lines n (Refused e) (found a) same all = let z : _≡_ {A = ℕ} 0 1 = cc in absurd (omega arith)
+  lines n (Refused e) (refused d) same all = let equal : numbered e ≡ d = cc in ap (λ (r : Refusal). refusalLine (text "list") (r .number)) equal
+
+  ratio-found : (ps : List ListPoint) → ratioBy (length ps) (distancesOf ps) ≡ ratio ps
+  unfolding ratio
+  ratio-found [] = refl
+  ratio-found (p ∷ []) = refl
+  ratio-found (p ∷ q ∷ ps) = refl
+
+  ratio-line : (answer : ListAnswer) (L : Answer C.ListAnswer) → listAnswer answer ≡ countsOf L → ratioText (pointsOf answer) (listDistances L ds) ≡ ratioLine L
+  unfolding text ratioLine listDistances
+  ratio-line (Found f) (found a) same =
+      let count : f .points ≡ length (a .points) = ap (λ (x : Answer Counts). countsIn x .points) same in
+      ap (λ (k : ℕ). ratioText k (distancesOf (a .points))) count ∙ ap (λ (s : String). text "ratio " ++ text s ++ newline) (ratio-found (a .points))
+  ratio-line (Found f) (refused e) same = let z : _≡_ {A = ℕ} 0 1 = cc in absurd (omega arith)
+  ratio-line (Refused e) (found a) same = let z : _≡_ {A = ℕ} 0 1 = cc in absurd (omega arith)
+  ratio-line (Refused e) (refused d) same = refl
+
+  few : (answer : ListAnswer) (L : Answer C.ListAnswer) → listAnswer answer ≡ countsOf L → length (listDistances L ds) ≡ length ds → pointsOf answer ≤ length ds
+  unfolding listDistances
+  few (Found f) (found a) same kept =
+      let count : f .points ≡ length (a .points) = ap (λ (x : Answer Counts). countsIn x .points) same in
+      let new = map (λ (p : ListPoint). p .distance) (a .points) in
+      let l = length-append new (drop (length new) ds) in
+      let d = length-drop (length new) ds in
+      let m = length-map (a .points) (λ (p : ListPoint). p .distance) in
+      omega (arith, count, l, d, m, kept)
+  few (Found f) (refused e) same kept = let z : _≡_ {A = ℕ} 0 1 = cc in absurd (omega arith)
+  few (Refused e) L same kept = omega arith
+
+module _ {L : Answer C.ListAnswer} {ds : List Float} {zs : List ℤ} {answer : ListAnswer} {ds′ : List Float} {zs′ : List ℤ} (a : ListAnswered L answer ds ds′ zs zs′) where
+  -- no more points than places
+  pub points-few : length ds′ ≡ length ds → pointsOf answer ≤ length ds
+  points-few kept = few ds zs answer L (a .tells) (sym (ap length (a .writes-distances)) ∙ kept)
+
+  -- the lines of the list and the ratio's, the slice lent on holding what the call left
+  pub part-text : {n k : ℕ} {zs″ : List ℤ} → ((b : C.ListAnswer) → L ≡ found b → All (Listed n) (b .points)) → zs″ ≡ zs′ → k ≡ pointsOf answer → listText answer n ds′ zs″ ++ ratioText k ds′ ≡ listLines L ++ ratioLine L
+  part-text {n} {k} all same-points count =
+      let l = lines ds zs n answer L (a .tells) all in
+      let r = ratio-line ds zs answer L (a .tells) in
+      cc

@@ -1,0 +1,8 @@
+-- Laws about lists.
+pub mod Each
+pub mod Permutations
+pub mod Places
+pub mod Copies
+pub mod Repeats
+pub mod Over
+pub mod Tuples

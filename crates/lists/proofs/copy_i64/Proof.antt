@@ -1,0 +1,50 @@
+-- `copy_i64`: the elements passed are the same. Assumes nothing.
+use mathlib.Core.Path.{refl}
+use Prim.Native.Nat.{_-_}
+use native.Mathlib.Omega.{arith}
+use lib.ListN.{length, getD}
+use lib.IntN.{pos}
+use mir.Syntax.{w64}
+use mir.ValLaws.{toZ-ofZ}
+use borrow.Author.Needs.{needs}
+use Rattle.lists.proofs.Copies.{Copied, copied-next, copied-end}
+use Rattle.lists.proofs.copy_i64.Statement.{statement}
+use Rattle.lists.proofs.copy_i64.Tie as tie
+
+abbrev Inv-loop : tie.InvT-loop
+Inv-loop from to₀ i₀ to i = Copied from to₀ to i
+
+abbrev μ-loop : tie.MeasureT-loop
+μ-loop from to₀ i₀ to i = length to₀ - i
+
+loop-holds : tie.Need-loop-holds Inv-loop μ-loop
+loop-holds c = record { bounded = omega arith; same-length = refl; same = refl }
+
+loop-again : tie.Need-loop-again Inv-loop μ-loop
+loop-again c =
+    let l = c .before .before in
+    let z = getD (l .before .args .from .now) (l .loop .i) (pos 0) in
+    copied-next (l .loop .inv) (l .before .pre) (omega arith) (pos 0) (toZ-ofZ w64 z (record { sfits = c .to .given }))
+
+same-length : tie.Need-same-length Inv-loop μ-loop
+same-length c = search needs
+
+returns : tie.Need-returns Inv-loop μ-loop
+returns c = copied-end (c .before .loop .inv) (omega arith)
+
+pub copy-i64-spec : {M : Type 1} → statement M
+copy-i64-spec =
+    tie.close
+    (tie.spec
+    Inv-loop
+    μ-loop
+    loop-holds
+    (λ c. search needs)
+    (λ c. search needs)
+    (λ c. search needs)
+    (λ c. search needs)
+    (λ c. search needs)
+    (λ c. search needs)
+    loop-again
+    same-length
+    returns)

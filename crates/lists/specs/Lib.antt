@@ -1,0 +1,5 @@
+-- What crates share of lists.
+pub mod All
+pub mod Permutation
+pub mod Places
+pub mod Over

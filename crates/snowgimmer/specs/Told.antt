@@ -1,0 +1,45 @@
+-- What each exported call tells, leaves in the lent slices, and promises. r is its number and its three values; ′ marks what a slice holds at exit.
+-- The answer that the promises speak of is the definition's, which r tells and the slices hold. Definitions only.
+use mathlib.Core.Path.{_≡_}
+use mathlib.Core.List.{List}
+use Prim.Native.Nat.{ℕ}
+use lib.IntN.{ℤ}
+use lib.Ieee.{Float}
+use Rattle.definitions.specs.Table.{Table}
+use Rattle.definitions.specs.Calls as C
+use Rattle.theorems.specs.Promises.{NearestPromises, SeededPromises, MlPromises, ListPromises, RoundPromises, PlanePromises}
+use Rattle.listing.specs.View.{countsOf}
+use Rattle.snowgimmer.specs.declared.report.Report.{Report}
+use Rattle.snowgimmer.specs.Reports.{ofNearest, ofCounts, ofVerdict}
+
+pub record NearestTold (t : Table) (target : List Float) (out : List ℤ) (radius : Float) (budget : ℕ) (r : Report) (out′ : List ℤ) : Type 0 where
+  pub tells : r ≡ ofNearest (C.nearest t target out radius budget)
+  pub writes : out′ ≡ C.nearestOutput (C.nearest t target out radius budget) out
+  pub promises : NearestPromises t target out radius budget (C.nearest t target out radius budget) out′
+
+pub record SeededTold (t : Table) (target : List Float) (out candidate : List ℤ) (radius : Float) (budget : ℕ) (r : Report) (out′ : List ℤ) : Type 0 where
+  pub tells : r ≡ ofNearest (C.nearestSeeded t target out candidate radius budget)
+  pub writes : out′ ≡ C.nearestOutput (C.nearestSeeded t target out candidate radius budget) out
+  pub promises : SeededPromises t target out candidate radius budget (C.nearestSeeded t target out candidate radius budget) out′
+
+pub record MlTold (t : Table) (target : List Float) (out : List ℤ) (budget : ℕ) (r : Report) (out′ : List ℤ) : Type 0 where
+  pub tells : r ≡ ofNearest (C.nearestMl t target out budget)
+  pub writes : out′ ≡ C.nearestOutput (C.nearestMl t target out budget) out
+  pub promises : MlPromises t target out budget (C.nearestMl t target out budget) out′
+
+pub record ListTold (t : Table) (target distances : List Float) (points : List ℤ) (radius : Float) (budget : ℕ) (r : Report) (distances′ : List Float) (points′ : List ℤ) : Type 0 where
+  pub tells : r ≡ ofCounts (countsOf (C.list t target distances points radius budget))
+  pub writes-distances : distances′ ≡ C.listDistances (C.list t target distances points radius budget) distances
+  pub writes-points : points′ ≡ C.listPoints (C.list t target distances points radius budget) points
+  pub promises : ListPromises t target distances points radius budget (C.list t target distances points radius budget) distances′ points′
+
+pub record RoundTold (coefficients : List Float) (out : List ℤ) (r : Report) (out′ : List ℤ) : Type 0 where
+  pub tells : r ≡ ofVerdict (C.round coefficients out)
+  pub writes : out′ ≡ C.roundOutput (C.round coefficients out) coefficients out
+  pub promises : RoundPromises coefficients out (C.round coefficients out) out′
+
+pub record PlaneTold (t : Table) (coefficients : List Float) (out : List ℤ) (r : Report) (coefficients′ : List Float) (out′ : List ℤ) : Type 0 where
+  pub tells : r ≡ ofVerdict (C.plane t coefficients out)
+  pub writes : out′ ≡ C.planeOutput (C.plane t coefficients out) t coefficients out
+  pub leaves : coefficients′ ≡ C.planeCoefficients (C.plane t coefficients out) t coefficients
+  pub promises : PlanePromises t coefficients out (C.plane t coefficients out) coefficients′ out′

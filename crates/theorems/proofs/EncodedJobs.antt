@@ -1,0 +1,99 @@
+-- A job's bytes read as the job. Assumes nothing.
+use mathlib.Core.Path.{_≡_, refl, ap, sym, _∙_}
+use mathlib.Core.List.{List, [], _∷_, _++_, append-assoc, append-nil, map}
+use Prim.Native.Nat.{ℕ, zero, suc, _*_}
+use native.Mathlib.Omega.{arith}
+use lib.Dec.{T}
+use lib.ListN.{length, length-map}
+use lib.Ieee.{Float, binary64, fits, toBits}
+use lib.Ieee.Bits.{ofBits-toBits, toBits-lt}
+use lib.Ieee.Fits.{and-l, and-r}
+use Rattle.lists.specs.All.{All, none, more}
+use Rattle.lists.proofs.Each.{all-take, all-drop, all-append}
+use Rattle.definitions.specs.Table.{dimension}
+use Rattle.definitions.specs.JobLayout.{Job, job, doubles, muRows, triangle, jobOf}
+use Rattle.definitions.specs.JobEncoding.{sectionBytes, doublesBytes, readEntries, jobBytes}
+use Rattle.theorems.specs.Doubles.{allDoubles}
+use Rattle.theorems.specs.EncodedJob.{Encodable}
+use Rattle.theorems.proofs.EncodedSections.{AllSmall, sections-read}
+use Rattle.theorems.proofs.EncodedRows.{entries-length, rows-read}
+
+-- ---- doubles by their bits
+abbrev AllDouble : List Float → Type 0
+AllDouble xs = All (λ (x : Float). T (fits binary64 x)) xs
+
+abbrev bits : List Float → List ℕ
+bits xs = map (toBits binary64) xs
+
+all-double : (xs : List Float) → T (allDoubles xs) → AllDouble xs
+unfolding allDoubles
+all-double [] d = none
+all-double (x ∷ xs) d = more (and-l (fits binary64 x) (allDoubles xs) d) (all-double xs (and-r (fits binary64 x) (allDoubles xs) d))
+
+bits-small : {xs : List Float} → AllDouble xs → AllSmall (bits xs)
+bits-small none = none
+bits-small (more {x = x} h a) = more (toBits-lt binary64 x h) (bits-small a)
+
+bits-back : {xs : List Float} → AllDouble xs → doubles (bits xs) ≡ xs
+bits-back none = refl
+bits-back (more {x = x} h a) = λ i. ofBits-toBits binary64 x h i ∷ bits-back a i
+
+entries-double : (n : ℕ) (mu : List Float) → AllDouble mu → (j : ℕ) → AllDouble (readEntries n mu j)
+unfolding readEntries
+entries-double n mu a zero = none
+entries-double n mu a (suc j) = all-append (entries-double n mu a j) (all-take j (all-drop (j * n) a))
+
+regroup : (a b c d e : List ℕ) → (((a ++ b) ++ c) ++ d) ++ e ≡ a ++ (b ++ (c ++ (d ++ (e ++ []))))
+regroup a b c d e = simp (append-assoc, append-nil)
+
+module _ (j : Job) (encodable : Encodable j) where
+  abbrev n : ℕ
+  n = dimension (j .table)
+
+  abbrev entries : List Float
+  entries = readEntries n (j .table .mu) n
+
+  weights-double : AllDouble (j .table .weights)
+  weights-double = all-double (j .table .weights) (and-l (allDoubles (j .table .weights)) _ (encodable .doubles))
+
+  mu-double : AllDouble (j .table .mu)
+  mu-double = all-double (j .table .mu) (and-l (allDoubles (j .table .mu)) (allDoubles (j .target)) (and-r (allDoubles (j .table .weights)) _ (encodable .doubles)))
+
+  target-double : AllDouble (j .target)
+  target-double = all-double (j .target) (and-r (allDoubles (j .table .mu)) (allDoubles (j .target)) (and-r (allDoubles (j .table .weights)) _ (encodable .doubles)))
+
+  -- the bytes, section after section
+  parts : jobBytes j ≡ sectionBytes (bits (j .table .weights)) ++ (sectionBytes (bits entries) ++ (sectionBytes (bits (j .target)) ++ (sectionBytes (toBits binary64 (j .radius) ∷ []) ++ (sectionBytes (j .budget ∷ []) ++ []))))
+  unfolding jobBytes
+  parts = regroup (doublesBytes (j .table .weights)) (doublesBytes entries) (doublesBytes (j .target)) (doublesBytes (j .radius ∷ [])) (sectionBytes (j .budget ∷ []))
+
+  pub job-read-back : jobOf (jobBytes j) ≡ job j
+  job-read-back =
+      let shape = encodable .shape in
+      let weights = bits (j .table .weights) in
+      let n-read : length weights ≡ n = length-map (j .table .weights) (toBits binary64) in
+      let mu-read : length (bits entries) ≡ triangle n = length-map entries (toBits binary64) ∙ entries-length n (j .table .mu) (shape .square) n (omega arith) in
+      let target-read : length (bits (j .target)) ≡ n = length-map (j .target) (toBits binary64) ∙ shape .target-length in
+      let entries-are = entries-double n (j .table .mu) mu-double n in
+      let radius-is = more (encodable .radius-double) none in
+      sections-read (jobBytes j) weights (bits entries) (bits (j .target)) (toBits binary64 (j .radius)) (j .budget) parts
+      (omega (arith, n-read, shape .small))
+      (mu-read ∙ ap triangle (sym n-read))
+      (target-read ∙ sym n-read)
+      (bits-small weights-double)
+      (bits-small entries-are)
+      (bits-small target-double)
+      (bits-small radius-is)
+      (more (encodable .budget-small) none)
+      ∙ (λ i. job (record {
+        table = record { weights = bits-back weights-double i; mu = muRows (n-read i) (bits-back entries-are i) (n-read i) };
+        target = bits-back target-double i;
+        radius = ofBits-toBits binary64 (j .radius) (encodable .radius-double) i;
+        budget = j .budget;
+      }))
+      ∙ (λ i. job (record {
+        table = record { weights = j .table .weights; mu = rows-read n (j .table .mu) (shape .square) (encodable .unread) i };
+        target = j .target;
+        radius = j .radius;
+        budget = j .budget;
+      }))

@@ -1,0 +1,215 @@
+-- Each call keeps its promises, for every input of doubles: the records of `specs/Promises.antt` for the calls of the specification. Assumes nothing.
+use mathlib.Core.Path.{_≡_, sym, ap, _∙_, subst}
+use mathlib.Core.List.{List}
+use mathlib.Core.Logic.{inl}
+use Prim.Native.Nat.{ℕ, _≤_, _<_}
+use native.Mathlib.Nat.{le-refl}
+use mathlib.Core.Bool.{not, false}
+use lib.Dec.{T, lit≤, lit<}
+use lib.ListN.{length}
+use lib.IntN.{ℤ}
+use lib.Ieee.{Float, binary64, fits, lt}
+use lib.Ieee.Scale.{finite}
+use Rattle.rounding.specs.Kinds.{Finite}
+use Rattle.definitions.specs.Table.{Table, dimension, largestDimension}
+use Rattle.definitions.specs.Distance.{distance}
+use Rattle.definitions.specs.Admitted.{allI64, isVector}
+use Rattle.definitions.specs.Nearest.{nearestWalk}
+use Rattle.definitions.specs.Listing.{listWalk}
+use Rattle.definitions.specs.Seeds.{nearestPlane, widened}
+use Rattle.definitions.specs.Refusals.{Refusal, outsideRadius, noSeed}
+use Rattle.definitions.specs.Checks.{Verdict, pass, firstRefusal, notFinite, radiusCheck, handedOn}
+use Rattle.definitions.specs.Calls.{Answer, found, refused, after, NearestPoint, endOfNearest, nearest, widenedSearch, nearestSeeded, mlRadius, nearestMl, nearestOutput, ListAnswer, endOfList, list, listDistances, listPoints, checksOfRound, round, roundOutput, plane, planeOutput, planeCoefficients}
+use Rattle.definitions.proofs.Admissions.{vector-intro}
+use Rattle.definitions.proofs.Passed.{SearchPassed, nearest-passed, radius-passed, SeededPassed, seeded-passed, ml-passed, list-passed, round-refused, round-written, plane-refused, plane-written}
+use Rattle.definitions.proofs.Answers.{after-pass, nearest-checks-are, nearest-is, widened-search-is, seeded-checks-are, seeded-is, ml-checks-are, ml-is, list-checks-are, list-is, distances-found, points-found, round-is, plane-is}
+use Rattle.theorems.specs.Doubles.{ofDoubles}
+use Rattle.theorems.specs.Refusals.{NoneFits}
+use Rattle.theorems.specs.Ordered.{StrictlyOrdered}
+use Rattle.theorems.specs.Answers.{Listed, Demand1}
+use Rattle.theorems.specs.Promises.{nearestCallChecks, NearestPromises, seededCallChecks, SeededPromises, mlCallChecks, MlPromises, listCallChecks, ListPromises, RoundPromises, planeCallChecks, PlanePromises}
+use Rattle.theorems.proofs.Limits.{Limits}
+use Rattle.theorems.proofs.Checked.{held, failed, limits-of-checks}
+use Rattle.theorems.proofs.Seeded.{widened-double, widened-plus, candidate-below, seeded-finds, nearestPlane-vector, mlRadius-finite, mlRadius-plus, mlRadius-within}
+use Rattle.theorems.proofs.FirstRefusal.{decision, first-least, numbers-below, none-passes}
+use Rattle.theorems.proofs.RefusedCalls.{demand-1, verdict-demand-1, slices-unchanged, list-own-numbers}
+use Rattle.theorems.proofs.CallNumbers.{nearest-numbered, nearest-indices, seeded-numbered, seeded-indices, ml-numbered, ml-indices, list-numbered, list-indices, round-numbered, round-index, plane-numbered, plane-indices}
+use Rattle.theorems.proofs.EndsAsWalk.{ends-as-list-walk}
+use Rattle.theorems.proofs.SearchCalls.{Ready, SearchCall, refused-above-15, search-promises, nothing-exactly}
+use Rattle.theorems.proofs.ListCall.{list-found, list-numbers}
+
+-- ---- the checks passed, on a table and a target of doubles
+limits-of-search : (t : Table) (target : List Float) (out : List ℤ) → T (ofDoubles t target) → SearchPassed largestDimension t target out → Limits t target
+limits-of-search t target out d p = limits-of-checks largestDimension t target (lit≤ tt) d (p .checked) (sym (p .shape .shape .target-length)) (p .targets)
+
+ready-at : (t : Table) (target : List Float) → Limits t target → (R : Float) → T (fits binary64 R) → radiusCheck R ≡ pass → Ready t target R
+ready-at t target limits R d q = record { limits = limits; finite = record { fit = d; fin = held (finite R) (radius-passed R q .0) }; plus = failed (lt R _) (radius-passed R q .1) }
+
+-- ---- nearest
+module _ (t : Table) (target : List Float) (out : List ℤ) (R : Float) (budget : ℕ) (doubles : T (ofDoubles t target)) (double : T (fits binary64 R)) where
+  nearest-call : SearchCall (nearestCallChecks t target out R budget) (outsideRadius (handedOn R)) t target (handedOn R) budget (nearest t target out R budget)
+  nearest-call = record {
+    below = numbers-below 15 (nearest-numbered t target out R budget) tt;
+    least = first-least 0 (nearest-numbered t target out R budget) tt;
+    indices = nearest-indices t target out R budget;
+    above-15 = lit< tt;
+    is = nearest-is t target out R budget ∙ ap (λ (v : Verdict). after v (endOfNearest (outsideRadius (handedOn R)) (nearestWalk t target (handedOn R) budget))) (nearest-checks-are t target out R budget);
+    ready = λ f.
+        let p = nearest-passed largestDimension t target out R budget (nearest-checks-are t target out R budget ∙ none-passes _ f) in
+        ready-at t target (limits-of-search t target out doubles (p .search)) R double (p .radius);
+  }
+
+  pub nearest-promises : NearestPromises t target out R budget (nearest t target out R budget) (nearestOutput (nearest t target out R budget) out)
+  nearest-promises = record { search = search-promises nearest-call out; gives-16 = λ small. nothing-exactly nearest-call }
+
+-- ---- a search at the widened radius
+-- the radius before and after the widening
+record Widening (t : Table) (target : List Float) (R : Float) : Type 0 where
+  before : Ready t target R
+  after : Finite binary64 (widened (dimension t) R)
+
+widening : {t : Table} {target : List Float} {R : Float} → Ready t target R → notFinite (widened (dimension t) R) ≡ false → Widening t target R
+widening {t} {target} {R} r q = record { before = r; after = record { fit = widened-double (dimension t) R; fin = held (finite (widened (dimension t) R)) q } }
+
+ready-widened : {t : Table} {target : List Float} {R : Float} → Widening t target R → Ready t target (widened (dimension t) R)
+ready-widened {t} {target} {R} w = let r = w .before in record { limits = r .limits; finite = w .after; plus = widened-plus t target (r .limits) R (r .finite) (r .plus) (w .after) }
+
+-- such a search's answer as the end of a walk
+widened-end : (t : Table) (target : List Float) (R : Float) (budget : ℕ) {v w : Verdict} → v ≡ w → after v (widenedSearch t target R budget) ≡ after w (endOfNearest (noSeed (widened (dimension t) R)) (nearestWalk t target (widened (dimension t) R) budget))
+widened-end t target R budget {w = w} are = ap (λ (x : Verdict). after x (widenedSearch t target R budget)) are ∙ ap (after w) (widened-search-is t target R budget)
+
+-- with a candidate within the radius
+module _ {checks : List Verdict} {t : Table} {target : List Float} {R : Float} {budget : ℕ} {answer : Answer NearestPoint} (call : SearchCall checks (noSeed (widened (dimension t) R)) t target (widened (dimension t) R) budget answer)
+    (start : NoneFits checks → Widening t target R) (z : List ℤ) (candidate : NoneFits checks → T (isVector t z) × T (not (lt R (distance t target z)))) where
+  never-17 : (e : Refusal) → answer ≡ refused e → e .number ≡ 17 → ⊥
+  never-17 e q n =
+      let (f, w) = refused-above-15 call e q (subst (λ (k : ℕ). 15 < k) (sym n) (lit< tt)) in
+      let s = start f in
+      let r = s .before in
+      let c = candidate f in
+      seeded-finds t target (r .limits) R (r .finite) (r .plus) (s .after) z (c .0) (c .1) budget (w .0) (w .1) (w .2)
+
+  above : 1 ≤ dimension t → NoneFits checks → T (lt (distance t target z) (widened (dimension t) R))
+  above h f = let s = start f in let r = s .before in let c = candidate f in candidate-below t target (r .limits) R (r .finite) (r .plus) (s .after) z (c .0) (c .1) h
+
+-- ---- nearest_seeded
+module _ (t : Table) (target : List Float) (out candidate : List ℤ) (R : Float) (budget : ℕ) (doubles : T (ofDoubles t target)) (double : T (fits binary64 R)) (integers : T (allI64 candidate)) where
+  seeded-pass : NoneFits (seededCallChecks t target out candidate R budget) → SeededPassed largestDimension t target out candidate R budget
+  seeded-pass f = seeded-passed largestDimension t target out candidate R budget (seeded-checks-are t target out candidate R budget ∙ none-passes (seededCallChecks t target out candidate R budget) f)
+
+  seeded-start : NoneFits (seededCallChecks t target out candidate R budget) → Widening t target (handedOn R)
+  seeded-start f = let p = seeded-pass f in widening (ready-at t target (limits-of-search t target out doubles (p .search)) R double (p .radius)) (p .wide)
+
+  seeded-call : SearchCall (seededCallChecks t target out candidate R budget) (noSeed (widened (dimension t) (handedOn R))) t target (widened (dimension t) (handedOn R)) budget (nearestSeeded t target out candidate R budget)
+  seeded-call = record {
+    below = numbers-below 15 (seeded-numbered t target out candidate R budget) tt;
+    least = first-least 0 (seeded-numbered t target out candidate R budget) tt;
+    indices = seeded-indices t target out candidate R budget;
+    above-15 = lit< tt;
+    is = seeded-is t target out candidate R budget ∙ widened-end t target (handedOn R) budget (seeded-checks-are t target out candidate R budget);
+    ready = λ f. ready-widened (seeded-start f);
+  }
+
+  seeded-candidate : NoneFits (seededCallChecks t target out candidate R budget) → T (isVector t candidate) × T (not (lt (handedOn R) (distance t target candidate)))
+  seeded-candidate f = let p = seeded-pass f in (vector-intro t candidate (sym (p .candidate-length)) integers, failed (lt (handedOn R) (distance t target candidate)) (p .inside))
+
+  pub seeded-promises : SeededPromises t target out candidate R budget (nearestSeeded t target out candidate R budget) (nearestOutput (nearestSeeded t target out candidate R budget) out)
+  seeded-promises =
+      record {
+        search = search-promises seeded-call out;
+        never-17 = λ small. never-17 seeded-call seeded-start candidate seeded-candidate;
+        above = λ some small. above seeded-call seeded-start candidate seeded-candidate some;
+      }
+
+-- ---- nearest_ml
+module _ (t : Table) (target : List Float) (out : List ℤ) (budget : ℕ) (doubles : T (ofDoubles t target)) where
+  ml-start : NoneFits (mlCallChecks t target out budget) → Widening t target (mlRadius t target)
+  ml-start f =
+      let p = ml-passed largestDimension t target out budget (ml-checks-are t target out budget ∙ none-passes (mlCallChecks t target out budget) f) in
+      let limits = limits-of-search t target out doubles (p .search) in
+      let has = held (finite (mlRadius t target)) (p .total) in
+      widening (record { limits = limits; finite = mlRadius-finite t target limits has; plus = mlRadius-plus t target limits has }) (p .wide)
+
+  ml-call : SearchCall (mlCallChecks t target out budget) (noSeed (widened (dimension t) (mlRadius t target))) t target (widened (dimension t) (mlRadius t target)) budget (nearestMl t target out budget)
+  ml-call = record {
+    below = numbers-below 15 (ml-numbered t target out budget) tt;
+    least = first-least 0 (ml-numbered t target out budget) tt;
+    indices = ml-indices t target out budget;
+    above-15 = lit< tt;
+    is = ml-is t target out budget ∙ widened-end t target (mlRadius t target) budget (ml-checks-are t target out budget);
+    ready = λ f. ready-widened (ml-start f);
+  }
+
+  ml-candidate : NoneFits (mlCallChecks t target out budget) → T (isVector t (nearestPlane t target .point)) × T (not (lt (mlRadius t target) (distance t target (nearestPlane t target .point))))
+  ml-candidate f = (nearestPlane-vector t target, let r = ml-start f .before in mlRadius-within t target (r .limits) (r .finite .fin))
+
+  pub ml-promises : MlPromises t target out budget (nearestMl t target out budget) (nearestOutput (nearestMl t target out budget) out)
+  ml-promises =
+      record {
+        search = search-promises ml-call out;
+        never-17 = λ small. never-17 ml-call ml-start (nearestPlane t target .point) ml-candidate;
+        above = λ some small. above ml-call ml-start (nearestPlane t target .point) ml-candidate some;
+      }
+
+-- ---- list
+module _ (t : Table) (target distances : List Float) (points : List ℤ) (R : Float) (budget : ℕ) (doubles : T (ofDoubles t target)) (double : T (fits binary64 R)) where
+  abbrev answer : Answer ListAnswer
+  answer = list t target distances points R budget
+
+  abbrev end : Answer ListAnswer
+  end = endOfList (length distances) (listWalk t target (handedOn R) budget)
+
+  is : answer ≡ after (firstRefusal (listCallChecks t target distances points R budget)) end
+  is = list-is t target distances points R budget ∙ ap (λ (v : Verdict). after v end) (list-checks-are t target distances points R budget)
+
+  list-ready : NoneFits (listCallChecks t target distances points R budget) → Ready t target (handedOn R)
+  list-ready f =
+      let p = list-passed largestDimension t target distances points R budget (list-checks-are t target distances points R budget ∙ none-passes (listCallChecks t target distances points R budget) f) in
+      ready-at t target (limits-of-checks largestDimension t target (lit≤ tt) doubles (p .checked) (sym (p .shape .target-length)) (p .targets)) R double (p .radius)
+
+  by-walk : NoneFits (listCallChecks t target distances points R budget) → answer ≡ end
+  by-walk f = is ∙ after-pass (firstRefusal (listCallChecks t target distances points R budget)) end (none-passes (listCallChecks t target distances points R budget) f)
+
+  demand : Demand1 (listCallChecks t target distances points R budget) 15 18 answer ((listDistances answer distances ≡ distances) × (listPoints answer points ≡ points))
+  demand = demand-1 (numbers-below 15 (list-numbered t target distances points R budget) tt) (le-refl 15) (lit≤ tt) (list-own-numbers _ _) is (slices-unchanged answer distances points) (decision (listCallChecks t target distances points R budget))
+
+  all : (a : ListAnswer) → answer ≡ found a → Listed t target (handedOn R) (a .points) (a .nodes) × StrictlyOrdered (a .points)
+  all a q = let f = demand .answers .1 (inl (a, q)) in list-found (list-ready f) budget (length distances) (by-walk f) a q
+
+  pub list-promises : ListPromises t target distances points R budget answer (listDistances answer distances) (listPoints answer points)
+  list-promises =
+      record {
+        demand-1 = demand;
+        least-number = first-least 0 (list-numbered t target distances points R budget) tt;
+        first-indices = list-indices t target distances points R budget;
+        ends = λ f. ends-as-list-walk (listWalk t target (handedOn R) budget) distances points answer (by-walk f);
+        exact = λ small a q. all a q .0;
+        order = λ small a q. all a q .1;
+        slices = λ a q. (ap (λ (x : Answer ListAnswer). listDistances x distances) q ∙ distances-found a distances, ap (λ (x : Answer ListAnswer). listPoints x points) q ∙ points-found a points);
+        numbers = λ small f. list-numbers (list-ready f) budget (length distances) (by-walk f);
+      }
+
+-- ---- round, nearest_plane
+module _ (coefficients : List Float) (out : List ℤ) where
+  pub round-promises : RoundPromises coefficients out (round coefficients out) (roundOutput (round coefficients out) coefficients out)
+  round-promises =
+      record {
+        demand-1 = verdict-demand-1 (round-is coefficients out) (λ e. round-refused coefficients out (round coefficients out)) (decision (checksOfRound coefficients out));
+        least-number = first-least 0 (round-numbered coefficients out) tt;
+        first-index = round-index coefficients out;
+        output = round-written coefficients out (round coefficients out);
+      }
+
+module _ (t : Table) (coefficients : List Float) (out : List ℤ) where
+  abbrev verdict : Verdict
+  verdict = plane t coefficients out
+
+  pub plane-promises : PlanePromises t coefficients out verdict (planeCoefficients verdict t coefficients) (planeOutput verdict t coefficients out)
+  plane-promises =
+      record {
+        demand-1 = verdict-demand-1 (plane-is t coefficients out) (λ e. plane-refused coefficients out t verdict) (decision (planeCallChecks t coefficients out));
+        least-number = first-least 0 (plane-numbered t coefficients out) tt;
+        first-indices = plane-indices t coefficients out;
+        output = λ q. let w = plane-written coefficients out t verdict q in (w .0, subst (λ (z : List ℤ). T (isVector t z)) (sym (w .0)) (nearestPlane-vector t coefficients));
+        residuals = λ q. plane-written coefficients out t verdict q .1;
+      }

@@ -1,0 +1,120 @@
+-- What the three nearest searches promise, by one law: of any call whose answer is its first refusal or the end of a walk from R. Assumes nothing.
+use mathlib.Core.Path.{_≡_, refl, sym, ap, _∙_, subst}
+use mathlib.Core.Logic.{_↔_, inl}
+use mathlib.Core.Bool.{not}
+use mathlib.Core.List.{List}
+use Prim.Native.Nat.{ℕ, _≤_, _<_}
+use native.Mathlib.Nat.{le-refl, le-trans, le-of-eq, le-of-lt}
+use lib.Dec.{T}
+use lib.ListN.{length}
+use lib.IntN.{ℤ}
+use lib.Ieee.{Float, binary64, lt}
+use Rattle.rounding.specs.Kinds.{Finite}
+use Rattle.definitions.specs.Table.{Table, plusZero}
+use Rattle.definitions.specs.Admitted.{admitted, opened}
+use Rattle.definitions.specs.Walk.{Walked, ended}
+use Rattle.definitions.specs.Nearest.{Best, no-best, best, nearestWalk}
+use Rattle.definitions.specs.Refusals.{Refusal}
+use Rattle.definitions.specs.Checks.{Verdict, firstRefusal, targetFault}
+use Rattle.definitions.specs.Calls.{Answer, found, refused, after, NearestPoint, endOfNearest, nearestOutput}
+use Rattle.definitions.proofs.Answers.{after-pass, end-nothing, output-found}
+use Rattle.theorems.specs.Counting.{NumberOf}
+use Rattle.theorems.specs.Prefixes.{openedPrefixes}
+use Rattle.theorems.specs.Refusals.{Fits, NoneFits, FirstIsLeast, FirstIndices}
+use Rattle.theorems.specs.Answers.{Nearest, Demand1}
+use Rattle.theorems.specs.Promises.{NearestNodes, SearchPromises, NothingToFind}
+use Rattle.theorems.proofs.Limits.{Limits}
+use Rattle.theorems.proofs.Counts.{same-length}
+use Rattle.theorems.proofs.Prefixes.{opened-once}
+use Rattle.theorems.proofs.Budget.{nearest-exhausted}
+use Rattle.theorems.proofs.Least.{nearest-point, nearest-nodes, nearest-enough, outside-exactly}
+use Rattle.theorems.proofs.Standing.{exhausted-radius}
+use Rattle.theorems.proofs.FirstRefusal.{decision, none-passes}
+use Rattle.theorems.proofs.RefusedCalls.{demand-1, own-refusal, output-unchanged, nearest-own-numbers}
+use Rattle.theorems.proofs.Endings.{point-walked, refused-nothing, refused-exhausted}
+use Rattle.theorems.proofs.EndsAsWalk.{ends-as-walk}
+
+-- what the laws of a walk ask for: the limits, and a finite radius that is not negative
+pub record Ready (t : Table) (target : List Float) (R : Float) : Type 0 where
+  pub limits : Limits t target
+  pub finite : Finite binary64 R
+  pub plus : T (not (lt R plusZero))
+
+pub number-of-prefixes : {t : Table} {target : List Float} {R : Float} → Ready t target R → NumberOf (opened t target R) (length (openedPrefixes t target R))
+number-of-prefixes {t} {target} {R} r = record { all = openedPrefixes t target R; once = opened-once t target (r .limits) R (r .finite) (r .plus); long = refl }
+
+-- a call with these checks that is otherwise the end of its walk from R
+pub record SearchCall (checks : List Verdict) (none : Refusal) (t : Table) (target : List Float) (R : Float) (budget : ℕ) (answer : Answer NearestPoint) : Type 0 where
+  pub below : (e : Refusal) → Fits checks e → e .number < 15
+  pub least : FirstIsLeast checks
+  pub indices : FirstIndices checks t targetFault target
+  pub above-15 : 15 < none .number
+  pub is : answer ≡ after (firstRefusal checks) (endOfNearest none (nearestWalk t target R budget))
+  pub ready : NoneFits checks → Ready t target R
+
+module _ {checks : List Verdict} {none : Refusal} {t : Table} {target : List Float} {R : Float} {budget : ℕ} {answer : Answer NearestPoint} (call : SearchCall checks none t target R budget answer) where
+  abbrev walk : Walked Best
+  walk = nearestWalk t target R budget
+
+  by-walk : NoneFits checks → answer ≡ endOfNearest none walk
+  by-walk f = call .is ∙ after-pass (firstRefusal checks) (endOfNearest none walk) (none-passes checks f)
+
+  -- a refusal above 15 comes where no check fits and the walk ends with nothing
+  pub refused-above-15 : (e : Refusal) → answer ≡ refused e → 15 < e .number → NoneFits checks × ((S : Float) × (m : ℕ) × (walk ≡ ended no-best S m))
+  refused-above-15 e q h =
+      let f = own-refusal (call .below) (le-refl 15) (le-of-lt (call .above-15)) (nearest-own-numbers none walk) (call .is) e q (le-of-lt h) in
+      (f, refused-nothing none walk e h (sym (by-walk f) ∙ q))
+
+  module _ (out : List ℤ) where
+    demand : Demand1 checks 15 (none .number) answer (nearestOutput answer out ≡ out)
+    demand = demand-1 (call .below) (le-refl 15) (le-of-lt (call .above-15)) (nearest-own-numbers none walk) (call .is) (output-unchanged answer out) (decision checks)
+
+    point : (a : NearestPoint) → answer ≡ found a → Nearest t target R (nearestOutput answer out)
+    point a q =
+        let f = demand .answers .1 (inl (a, q)) in
+        let r = call .ready f in
+        let w = point-walked none walk a (sym (by-walk f) ∙ q) in
+        subst (Nearest t target R) (sym (ap (λ (x : Answer NearestPoint). nearestOutput x out) q ∙ output-found a out))
+        (nearest-point t target (r .limits) R (r .finite) (r .plus) budget (a .point) (w .0) (a .nodes) (w .1))
+
+    nodes : NoneFits checks → NearestNodes t target R budget answer
+    nodes f =
+        let r = call .ready f in
+        record {
+          prefixes = length (openedPrefixes t target R);
+          opened-number = number-of-prefixes r;
+          enough-budget = λ h m S q. nearest-enough t target (r .limits) R (r .finite) (r .plus) budget h m S (refused-exhausted none (call .above-15) walk m S (sym (by-walk f) ∙ q));
+          most-nodes = λ a q. let w = point-walked none walk a (sym (by-walk f) ∙ q) in nearest-nodes t target (r .limits) R (r .finite) (r .plus) budget (best (a .point)) (w .0) (a .nodes) (w .1);
+          values-of-15 = λ m S q.
+              let w = refused-exhausted none (call .above-15) walk m S (sym (by-walk f) ∙ q) in
+              (nearest-exhausted t target R budget m S w, exhausted-radius t target (r .limits) R (r .finite) (r .plus) budget m S w);
+        }
+
+    pub search-promises : SearchPromises checks none t target R budget out answer (nearestOutput answer out)
+    search-promises =
+        record {
+          demand-1 = demand;
+          least-number = call .least;
+          first-indices = call .indices;
+          ends = λ f. ends-as-walk none walk out answer (by-walk f);
+          point = λ small. point;
+          nodes = λ small. nodes;
+        }
+
+  -- the refusal for nothing found comes if and only if no check fits, R admits no vector and the budget has a node for every opened prefix
+  pub nothing-exactly : (answer ≡ refused none) ↔ NothingToFind checks t target R budget
+  nothing-exactly = (there, back)
+    where
+      there : answer ≡ refused none → NothingToFind checks t target R budget
+      there q =
+          let (f, w) = refused-above-15 none q (call .above-15) in
+          let r = call .ready f in
+          let x = outside-exactly t target (r .limits) R (r .finite) (r .plus) budget .0 w in
+          (f, x .0, length (openedPrefixes t target R), number-of-prefixes r, x .1)
+
+      back : NothingToFind checks t target R budget → answer ≡ refused none
+      back (f, n, k, o, h) =
+          let r = call .ready f in
+          let same = same-length (opened t target R) (openedPrefixes t target R) (o .all) (opened-once t target (r .limits) R (r .finite) (r .plus)) (o .once) ∙ o .long in
+          let w = outside-exactly t target (r .limits) R (r .finite) (r .plus) budget .1 (n, le-trans (le-of-eq same) h) in
+          by-walk f ∙ ap (endOfNearest none) (w .2) ∙ end-nothing none (w .0) (w .1)

@@ -1,0 +1,159 @@
+-- What each call promises of its answer and of the slices it leaves (docs/SPECIFICATION.md, "What is promised"): a record for each call, for every input of doubles. Definitions only.
+-- `answer` and the primed slices are what the caller gets. Beside "where no check fits", n ≤ 23 stands where a promise is made up to dimension 23.
+use mathlib.Core.Path.{_≡_}
+use mathlib.Core.List.{List, map}
+use mathlib.Core.Logic.{_⊎_, _↔_}
+use Prim.Native.Nat.{ℕ, _≤_, _<_}
+use lib.Dec.{T}
+use lib.ListN.{length}
+use lib.IntN.{ℤ}
+use lib.Ieee.{Float, lt}
+use Rattle.rounding.specs.Integers.{roundAway}
+use Rattle.definitions.specs.Table.{Table, dimension, largestDimension}
+use Rattle.definitions.specs.Distance.{distance}
+use Rattle.definitions.specs.Admitted.{isVector, admitted, opened}
+use Rattle.definitions.specs.Nearest.{nearestWalk}
+use Rattle.definitions.specs.Listing.{ListPoint, listWalk}
+use Rattle.definitions.specs.Seeds.{nearestPlane, widened}
+use Rattle.definitions.specs.Refusals.{Refusal, budgetExhausted, outsideRadius, noSeed, listFull}
+use Rattle.definitions.specs.Checks.{Verdict, pass, notFinite, targetFault, handedOn}
+use Rattle.definitions.specs.Calls.{Answer, found, refused, NearestPoint, checksOfNearest, checksOfSeeded, mlRadius, checksOfMl, ListAnswer, written, coordinates, checksOfList, checksOfRound, checksOfPlane}
+use Rattle.theorems.specs.Counting.{NumberOf}
+use Rattle.theorems.specs.Ordered.{StrictlyOrdered}
+use Rattle.theorems.specs.Refusals.{NoneFits, FirstIsLeast, NumberIndex, FirstIndices}
+use Rattle.theorems.specs.Answers.{Nearest, Listed, EndsAsWalk, EndsAsListWalk, Demand1, VerdictDemand1}
+
+-- ---- nearest, nearest_seeded, nearest_ml: R is the radius that the walk starts from
+
+-- a radius that can have stood: R, or the distance of a vector admitted at R
+abbrev pub StandingRadius : Table → List Float → Float → Float → Type 0
+StandingRadius t target R S = (S ≡ R) ⊎ ((z : List ℤ) × T (admitted t target R z) × (S ≡ distance t target z))
+
+-- the nodes of a nearest search, its checks having passed
+pub record NearestNodes (t : Table) (target : List Float) (R : Float) (budget : ℕ) (answer : Answer NearestPoint) : Type 0 where
+  -- the number of prefixes opened at R
+  pub prefixes : ℕ
+  pub opened-number : NumberOf (opened t target R) prefixes
+  -- a budget of at least that number is never exhausted
+  pub enough-budget : prefixes ≤ budget → (m : ℕ) (S : Float) → answer ≡ refused (budgetExhausted m S) → ⊥
+  -- a point found has cost no more nodes than that
+  pub most-nodes : (a : NearestPoint) → answer ≡ found a → a .nodes ≤ prefixes
+  -- 15 carries the budget as its count, and the radius that stood
+  pub values-of-15 : (m : ℕ) (S : Float) → answer ≡ refused (budgetExhausted m S) → (m ≡ budget) × StandingRadius t target R S
+
+-- what all three promise, whose checks are these; `none` is the refusal if the walk finds nothing
+pub record SearchPromises (checks : List Verdict) (none : Refusal) (t : Table) (target : List Float) (R : Float) (budget : ℕ) (out : List ℤ) (answer : Answer NearestPoint) (out′ : List ℤ) : Type 0 where
+  -- refused by the first check that fits, with its number and values; where none fits, a point or 15 or the number of `none`;
+  -- a refusal leaves out as it was
+  pub demand-1 : Demand1 checks 15 (none .number) answer (out′ ≡ out)
+  -- the first check that fits has the least number that fits
+  pub least-number : FirstIsLeast checks
+  -- 3, 4, 5 and 7 carry the first index
+  pub first-indices : FirstIndices checks t targetFault target
+  -- where no check fits: the same point and count as the walk, or the same refusal and numbers; and out
+  pub ends : NoneFits checks → EndsAsWalk none (nearestWalk t target R budget) out answer out′
+  -- a point found: out holds a vector of n signed 64-bit integers, admitted at R, and no such vector has a smaller computed distance
+  pub point : dimension t ≤ 23 → (a : NearestPoint) → answer ≡ found a → Nearest t target R out′
+  -- where no check fits: the number of opened prefixes, and what it says of the budget and the count
+  pub nodes : dimension t ≤ 23 → NoneFits checks → NearestNodes t target R budget answer
+
+-- no check fits, no vector is admitted, and the budget is at least the number of opened prefixes
+abbrev pub NothingToFind : List Verdict → Table → List Float → Float → ℕ → Type 0
+NothingToFind checks t target R budget =
+    NoneFits checks × ((y : List ℤ) → T (admitted t target R y) → ⊥) × (k : ℕ) × NumberOf (opened t target R) k × (k ≤ budget)
+
+-- `nearest`
+module _ (t : Table) (target : List Float) (out : List ℤ) (radius : Float) (budget : ℕ) where
+  abbrev pub nearestCallChecks : List Verdict
+  nearestCallChecks = checksOfNearest largestDimension t target out radius budget
+
+  pub record NearestPromises (answer : Answer NearestPoint) (out′ : List ℤ) : Type 0 where
+    pub search : let R = handedOn radius in SearchPromises nearestCallChecks (outsideRadius R) t target R budget out answer out′
+    -- 16 if and only if no check fits, no vector is admitted, and the budget has a node for every opened prefix
+    pub gives-16 : dimension t ≤ 23 → let R = handedOn radius in (answer ≡ refused (outsideRadius R)) ↔ NothingToFind nearestCallChecks t target R budget
+
+-- `nearest_seeded`
+module _ (t : Table) (target : List Float) (out candidate : List ℤ) (radius : Float) (budget : ℕ) where
+  abbrev pub seededCallChecks : List Verdict
+  seededCallChecks = checksOfSeeded largestDimension t target out candidate radius budget
+
+  pub record SeededPromises (answer : Answer NearestPoint) (out′ : List ℤ) : Type 0 where
+    pub search : let R = widened (dimension t) (handedOn radius) in SearchPromises seededCallChecks (noSeed R) t target R budget out answer out′
+    -- 17 never comes
+    pub never-17 : dimension t ≤ 23 → (e : Refusal) → answer ≡ refused e → e .number ≡ 17 → ⊥
+    -- where no check fits, the walk starts from a radius strictly above the candidate's distance
+    pub above : 1 ≤ dimension t → dimension t ≤ 23 → NoneFits seededCallChecks → T (lt (distance t target candidate) (widened (dimension t) (handedOn radius)))
+
+-- `nearest_ml`
+module _ (t : Table) (target : List Float) (out : List ℤ) (budget : ℕ) where
+  abbrev pub mlCallChecks : List Verdict
+  mlCallChecks = checksOfMl largestDimension t target out budget
+
+  pub record MlPromises (answer : Answer NearestPoint) (out′ : List ℤ) : Type 0 where
+    pub search : let R = widened (dimension t) (mlRadius t target) in SearchPromises mlCallChecks (noSeed R) t target R budget out answer out′
+    -- 17 never comes
+    pub never-17 : dimension t ≤ 23 → (e : Refusal) → answer ≡ refused e → e .number ≡ 17 → ⊥
+    -- where no check fits, the walk starts from a radius strictly above the distance of the nearest-plane point
+    pub above : 1 ≤ dimension t → dimension t ≤ 23 → NoneFits mlCallChecks → T (lt (distance t target (nearestPlane t target .point)) (widened (dimension t) (mlRadius t target)))
+
+-- ---- list
+
+-- the numbers of opened prefixes and admitted vectors say how a list ends, its checks having passed
+pub record ListNumbers (t : Table) (target : List Float) (R : Float) (budget places : ℕ) (answer : Answer ListAnswer) : Type 0 where
+  pub prefixes : ℕ
+  pub opened-number : NumberOf (opened t target R) prefixes
+  pub vectors : ℕ
+  pub admitted-number : NumberOf (admitted t target R) vectors
+  -- a list exactly where the budget and the places are enough
+  pub gives-list : ((a : ListAnswer) × (answer ≡ found a)) ↔ ((prefixes ≤ budget) × (vectors ≤ places))
+  -- 18 exactly where the budget is enough and the places are not; it carries the number of admitted vectors
+  pub gives-18 : (k : ℕ) → (answer ≡ refused (listFull k)) ↔ ((prefixes ≤ budget) × (places < vectors) × (k ≡ vectors))
+  -- 15 exactly where the budget is below the number of opened prefixes; it carries the budget and R
+  pub gives-15 : (m : ℕ) (S : Float) → (answer ≡ refused (budgetExhausted m S)) ↔ ((budget < prefixes) × (m ≡ budget) × (S ≡ R))
+
+-- `list`
+module _ (t : Table) (target distances : List Float) (points : List ℤ) (radius : Float) (budget : ℕ) where
+  abbrev pub listCallChecks : List Verdict
+  listCallChecks = checksOfList largestDimension t target distances points radius budget
+
+  pub record ListPromises (answer : Answer ListAnswer) (distances′ : List Float) (points′ : List ℤ) : Type 0 where
+    -- refused by the first check that fits, with its number and values; where none fits, a list or 15 or 18;
+    -- a refusal leaves both slices as they were
+    pub demand-1 : Demand1 listCallChecks 15 18 answer ((distances′ ≡ distances) × (points′ ≡ points))
+    pub least-number : FirstIsLeast listCallChecks
+    pub first-indices : FirstIndices listCallChecks t targetFault target
+    -- where no check fits: the same list and count as the walk, or the same refusal and numbers; and both slices
+    pub ends : NoneFits listCallChecks → EndsAsListWalk (listWalk t target (handedOn radius) budget) distances points answer distances′ points′
+    -- every admitted vector once, nothing else, each with its own distance; as many nodes as there are opened prefixes
+    pub exact : dimension t ≤ 23 → (a : ListAnswer) → answer ≡ found a → Listed t target (handedOn radius) (a .points) (a .nodes)
+    -- strictly in the list's order
+    pub order : dimension t ≤ 23 → (a : ListAnswer) → answer ≡ found a → StrictlyOrdered (a .points)
+    -- the slices begin with them, and what lies behind the last point stays as it was
+    pub slices : (a : ListAnswer) → answer ≡ found a →
+        (distances′ ≡ written (map (λ (p : ListPoint). p .distance) (a .points)) distances) × (points′ ≡ written (coordinates (a .points)) points)
+    pub numbers : dimension t ≤ 23 → NoneFits listCallChecks → ListNumbers t target (handedOn radius) budget (length distances) answer
+
+-- ---- round, nearest_plane
+
+-- `round`
+pub record RoundPromises (coefficients : List Float) (out : List ℤ) (verdict : Verdict) (out′ : List ℤ) : Type 0 where
+  -- refused exactly by the first check that fits, with its number and values, and out is as it was
+  pub demand-1 : VerdictDemand1 (checksOfRound coefficients out) verdict (out′ ≡ out)
+  pub least-number : FirstIsLeast (checksOfRound coefficients out)
+  pub first-index : NumberIndex (checksOfRound coefficients out) notFinite coefficients
+  -- otherwise out holds `round_away` of each coefficient
+  pub output : verdict ≡ pass → out′ ≡ map roundAway coefficients
+
+-- `nearest_plane`
+module _ (t : Table) (coefficients : List Float) (out : List ℤ) where
+  abbrev pub planeCallChecks : List Verdict
+  planeCallChecks = checksOfPlane largestDimension t coefficients out
+
+  pub record PlanePromises (verdict : Verdict) (coefficients′ : List Float) (out′ : List ℤ) : Type 0 where
+    -- refused exactly by the first check that fits, with its number and values, and both slices are as they were
+    pub demand-1 : VerdictDemand1 planeCallChecks verdict ((out′ ≡ out) × (coefficients′ ≡ coefficients))
+    pub least-number : FirstIsLeast planeCallChecks
+    pub first-indices : FirstIndices planeCallChecks t notFinite coefficients
+    -- otherwise out holds the nearest-plane point, a vector of n signed 64-bit integers, and the coefficients t - z
+    pub output : verdict ≡ pass → (out′ ≡ nearestPlane t coefficients .point) × T (isVector t out′)
+    pub residuals : verdict ≡ pass → coefficients′ ≡ nearestPlane t coefficients .left
