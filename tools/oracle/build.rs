@@ -3,6 +3,9 @@
 //!
 //! The folder is ORACLE_SOURCE, or ../shared/docs/src seen from the repository's root. Behind `enumerate.rs` goes
 //! `src/appended.rs`: a table's constructor, and doors to functions that are private there.
+//!
+//! For the run tests as Rust it writes the crate `printing` as one file, since Rust does not look for its module in a `.rt`
+//! file, and the crate `refusals` without its contracts, each of whose clauses is a line.
 
 use std::path::{Path, PathBuf};
 use std::{env, fs};
@@ -31,6 +34,15 @@ fn item(text: &str, first: &str, last: &str) -> String {
     panic!("lib.rs has no end of `{first}`");
 }
 
+/// The code without its contracts.
+fn without_contracts(text: &str) -> String {
+    let clause = |line: &&str| {
+        let line = line.trim_start();
+        ["ghost use ", "requires {", "ensures {"].iter().any(|start| line.starts_with(start))
+    };
+    text.lines().filter(|line| !clause(line)).map(|line| format!("{line}\n")).collect()
+}
+
 fn main() {
     println!("cargo:rerun-if-env-changed=ORACLE_SOURCE");
     let project = PathBuf::from(env::var("CARGO_MANIFEST_DIR").unwrap());
@@ -55,4 +67,11 @@ fn main() {
         root.push_str(&format!("#[path = {:?}]\npub mod {name};\n", out.join(format!("{name}.rs"))));
     }
     fs::write(out.join("root.rs"), root).unwrap();
+
+    let printing = project.join("../../crates/printing/src");
+    let values = format!("pub mod values {{\n{}}}", read(&printing.join("values.rt")));
+    let text = read(&printing.join("lib.rt")).replacen("pub mod values;", &values, 1);
+    fs::write(out.join("printing.rs"), text).unwrap();
+    let refusals = read(&project.join("../../crates/refusals/src/lib.rt"));
+    fs::write(out.join("refusals.rs"), without_contracts(&refusals)).unwrap();
 }

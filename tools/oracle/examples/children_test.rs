@@ -2,7 +2,7 @@
 //! prints is what is stored in crates/children_test/stdout. The original hands out the integers and the state; the
 //! double and the term of each are worked out here.
 
-#![allow(dead_code, clippy::eq_op, clippy::new_ret_no_self)]
+#![allow(dead_code, clippy::new_ret_no_self)]
 
 mod common;
 use common::{io, printing};

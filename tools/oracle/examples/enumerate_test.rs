@@ -1,11 +1,11 @@
 //! The run test `enumerate_test` as Rust, with the original in the place of the crate `enumerate`: what it prints is
 //! what is stored in crates/enumerate_test/stdout. Refusals 2 to 5 and 9, which the original does not have, are
-//! document 01's.
+//! the specification's.
 
-#![allow(dead_code, clippy::eq_op, clippy::zero_divided_by_zero)]
+#![allow(dead_code)]
 
 mod common;
-use common::{io, printing, refusals};
+use common::{printing, refusals};
 
 mod enumerate {
     use super::common;

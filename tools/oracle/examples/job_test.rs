@@ -3,8 +3,8 @@
 //! prints for the file that the argument names.
 //!
 //! The original's: the points, the counts, the distances, the list's order and refusals 7, 8, 15 and 16. A list's nodes,
-//! which it does not hand out, are the least budget that it accepts. Worked out here, by document 01: the layout with
-//! refusal 1, refusals 3, 4, 5, 9 and 18, which refusal comes first, the ratio and the text. A job can't meet the
+//! which it does not hand out, are the least budget that it accepts. Worked out here, by the specification: the layout
+//! with refusal 1, refusals 3, 4, 5, 9 and 18, which refusal comes first, the ratio and the text. A job can't meet the
 //! others: by its layout its table has the right size and its target the right length, and the program lends the list
 //! right slices.
 
@@ -78,7 +78,7 @@ fn table_fault(job: &Job) -> Option<u32> {
     }
 }
 
-/// Document 01's number of the original's error.
+/// The specification's number of the original's error.
 fn number(error: DecodeError) -> u32 {
     match error {
         DecodeError::NonFinite { .. } => 7,

@@ -1,11 +1,11 @@
 //! The run test `listing_test` as Rust, with the original in the place of the crate `listing`: what it prints is what
 //! is stored in crates/listing_test/stdout. Refusals 2 to 5, 9, 14 and 18, which the original does not have, are
-//! document 01's. The nodes, which the original does not hand out, are the least budget that it accepts.
+//! the specification's. The nodes, which the original does not hand out, are the least budget that it accepts.
 
-#![allow(dead_code, clippy::eq_op, clippy::zero_divided_by_zero, clippy::too_many_arguments)]
+#![allow(dead_code, clippy::too_many_arguments)]
 
 mod common;
-use common::{io, printing, refusals};
+use common::{printing, refusals};
 
 mod rounding {
     pub fn to_double(n: i64) -> f64 {

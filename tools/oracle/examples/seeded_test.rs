@@ -1,11 +1,12 @@
 //! The run test `seeded_test` as Rust, with the original in the place of the crate `seeded`: what it prints is what is
-//! stored in crates/seeded_test/stdout. Refusals 2 to 5 and 9, which the original does not have, are document 01's. By
-//! document 01 the original's LengthMismatch is 6 or 10, its InvalidRadius 8, 11, 12 or 13, its OutsideRadius 17.
+//! stored in crates/seeded_test/stdout. Refusals 2 to 5 and 9, which the original does not have, are the
+//! specification's. By it the original's LengthMismatch is 6 or 10, its InvalidRadius 8, 11, 12 or 13, and its
+//! OutsideRadius 17.
 
-#![allow(dead_code, clippy::eq_op, clippy::zero_divided_by_zero, clippy::too_many_arguments)]
+#![allow(dead_code, clippy::too_many_arguments)]
 
 mod common;
-use common::{io, printing, refusals};
+use common::{printing, refusals};
 
 mod enumerate {
     pub use super::common::NearestAnswer;

@@ -1,4 +1,4 @@
-//! Document 01's bench cases A to L. L's budget of 2^60 + 1 is left out: the original does not have refusal 9.
+//! The specification's bench cases A to L. L's budget of 2^60 + 1 is left out: the original does not have refusal 9.
 
 use oracle::error::DecodeError::{self, BudgetExhausted, InvalidRadius, NonFinite, OutsideRadius};
 use oracle::{Enumerator, list, nearest, nearest_ml, nearest_plane, nearest_seeded, round, rounded_away};

@@ -1,5 +1,5 @@
 //! What the run tests as Rust share: the crates that they print with, the answer of a nearest search, and the refusals
-//! 2 to 5, 9 and 14, which the original does not have and which are document 01's.
+//! 2 to 5, 9 and 14, which the original does not have and which are the specification's.
 
 use oracle::Enumerator;
 use oracle::error::DecodeError;
@@ -22,12 +22,13 @@ pub mod io {
 }
 
 pub mod refusals {
-    include!("../../../../crates/refusals/src/lib.rt");
+    include!(concat!(env!("OUT_DIR"), "/refusals.rs"));
 }
 
+#[allow(clippy::eq_op, clippy::zero_divided_by_zero)]
 pub mod printing {
     use super::{io, refusals};
-    include!("../../../../crates/printing/src/lib.rt");
+    include!(concat!(env!("OUT_DIR"), "/printing.rs"));
 }
 
 pub struct NearestPoint {
