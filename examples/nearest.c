@@ -1,6 +1,10 @@
-/* The nearest integer vector and the list of all within a radius, over a table of two weights.
+/* The nearest integer vector and the list of all within a radius, over a table of two weights. From the repository:
  *
  *     cc -Iinclude examples/nearest.c target/staticlib/libsnowgimmer.a -o nearest && ./nearest
+ *
+ * or with what tools/install has put where pkg-config looks:
+ *
+ *     cc examples/nearest.c $(pkg-config --cflags --libs snowgimmer) -o nearest && ./nearest
  */
 #include <inttypes.h>
 #include <stdio.h>
@@ -11,6 +15,7 @@
 #define PLACES 256
 
 static const double weights[N] = {1.0, 1.0};
+/* row by row: only mu[1*N+0] is read */
 static const double mu[N * N] = {0.0, 0.0, 0.5, 0.0};
 static const double target[N] = {0.25, 0.5};
 
@@ -24,15 +29,17 @@ static void print_point(const int64_t *point) {
 }
 
 static int refused(const char *call, uint32_t number) {
-    printf("%s refused %" PRIu32 " (%" PRIu64 ", %" PRIu64 ", %g)\n", call, number, first, second, real);
+    printf("%s refused %" PRIu32 " %s (%" PRIu64 ", %" PRIu64 ", %g)\n", call, number, snowgimmer_refusal_name(number),
+        first, second, real);
     return 1;
 }
 
+/* The radius and the distances are squares. */
 static int nearest(double radius, uint64_t budget) {
     int64_t out[N];
     uint32_t number =
         snowgimmer_nearest(weights, N, mu, N * N, target, N, out, N, radius, budget, &first, &second, &real);
-    if (number != 0) return refused("nearest", number);
+    if (number != SNOWGIMMER_SUCCESS) return refused("nearest", number);
     printf("nearest: %" PRIu64 " nodes, point", first);
     print_point(out);
     return 0;
@@ -43,7 +50,7 @@ static int list(double radius, uint64_t budget) {
     static int64_t points[PLACES * N];
     uint32_t number = snowgimmer_list(weights, N, mu, N * N, target, N, distances, PLACES, points, PLACES * N, radius,
         budget, &first, &second, &real);
-    if (number != 0) return refused("list", number);
+    if (number != SNOWGIMMER_SUCCESS) return refused("list", number);
     printf("list: %" PRIu64 " nodes, %" PRIu64 " points\n", first, second);
     for (uint64_t i = 0; i < second; i++) {
         printf("  distance %g, point", distances[i]);

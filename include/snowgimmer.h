@@ -1,12 +1,37 @@
-/* The integer search over a triangular table.
+/* The integer search over a triangular table: the vector of 64-bit integers that is nearest to a target.
  *
- * A table is n weights and n*n entries mu, n from 0 to 23; of mu only mu[j*n+i] with j > i is read. Every function but
- * snowgimmer_round_away answers 0 if it succeeded, and else the number of the refusal, and always writes its report
- * through first, second and real. Where a function or a refusal has no use for one of them it holds 0.
+ * WHAT IS MINIMISED. For a table of n weights w and entries mu and a target t, all doubles, the vector z of n signed
+ * 64-bit integers with the least
+ *
+ *     distance(z) = sum over i of  w[i] * (c[i] - z[i])^2
+ *     c[i]        = t[i] + sum over j > i of  mu[j*n+i] * (t[j] - z[j])
+ *
+ * which is (t-z)' L W L' (t-z) with W = diag(w) and L the unit lower triangular matrix that has mu[j*n+i] in row j and
+ * column i. So for the estimate t of whole cycles with the covariance matrix Q, the table is the factorization
+ * Q^-1 = L W L'; for the basis of a lattice it is the squared lengths and the coefficients of Gram and Schmidt.
+ *
+ * DISTANCE AND RADIUS ARE SQUARES, as this sum is: a radius of 4 holds the vectors at a length of up to 2. They are
+ * computed in IEEE 754 doubles, each operation rounded to nearest-even, and "nearest" is by the computed distance.
+ *
+ * A TABLE has n weights, 0 to 23, and n*n entries mu, ROW BY ROW. Only entries below the diagonal are read; the others,
+ * the diagonal's ones too, may hold anything. For n = 4:
+ *
+ *              i = 0    i = 1    i = 2    i = 3
+ *     j = 0      .        .        .        .
+ *     j = 1    mu[4]      .        .        .          entry (j, i) is mu[j*n+i], read where j > i
+ *     j = 2    mu[8]    mu[9]      .        .
+ *     j = 3    mu[12]   mu[13]   mu[14]     .
+ *
+ * WARNING. A matrix stored column by column, as in Fortran, MATLAB and Eigen, has its entries above the diagonal of
+ * this picture. No check can tell: the call succeeds, with the nearest point of another table. Transpose it first.
+ *
+ * ANSWERS. Every function but snowgimmer_round_away answers 0 if it succeeded, and else the number of the refusal, and
+ * always writes its report through first, second and real. Where a function or a refusal has no use for one of them it
+ * holds 0.
  *
  *   number                  first              second   real
  *    0                      as each function says below
- *    2 TableSize            weights' length                       n above 23, or mu not n*n long
+ *    2 TableSize            weights' length                       more than 23 weights, or mu of a length not n*n
  *    3 MuNonFinite          its index                             an entry that is read is not finite
  *    4 MuRange              its index                             an entry that is read is above 2^52 in magnitude
  *    5 WeightRange          its index                             a weight is not finite or not above 0
@@ -24,9 +49,11 @@
  *   17 NoSeed                                           radius    no vector is inside the widened one
  *   18 ListFull             points                                more points than places
  *
- * A refusal leaves every slice that it is lent as it was.
+ * The first number that fits is the answer. A refusal leaves every slice that it is lent as it was.
  *
- * Each pointer is aligned and not null, also where its length is 0, and what a function writes overlaps nothing else
+ * A BUDGET is the number of nodes that a search may try, up to 2^60. A search with more to try ends with 15.
+ *
+ * POINTERS. Each is aligned and not null, also where its length is 0, and what a function writes overlaps nothing else
  * that it is passed. Nothing is allocated and nothing is kept between calls, so calls may run side by side. The
  * floating-point unit rounds to nearest and keeps subnormal numbers, as a C program starts.
  */
@@ -36,11 +63,73 @@
 #include <stddef.h>
 #include <stdint.h>
 
+#define SNOWGIMMER_VERSION_MAJOR 0
+#define SNOWGIMMER_VERSION_MINOR 1
+#define SNOWGIMMER_VERSION_PATCH 0
+#define SNOWGIMMER_VERSION "0.1.0"
+
+/* The largest n. */
+#define SNOWGIMMER_LARGEST_DIMENSION 23
+/* The most places that a list may be lent. */
+#define SNOWGIMMER_LARGEST_LIST 4096
+/* The largest budget, 2^60. */
+#define SNOWGIMMER_LARGEST_BUDGET ((uint64_t)1 << 60)
+/* The largest magnitude of an entry of mu and of a target, 2^52. */
+#define SNOWGIMMER_COORD_LIMIT 4503599627370496.0
+
 #ifdef __cplusplus
 extern "C" {
 #endif
 
-/* The nearest integer, halves away from zero; from 2^63 up INT64_MAX, from -2^63 down INT64_MIN, and 0 of a NaN. */
+/* The answers of the functions: success and the numbered refusals. Number 1, JobLayout, is the job program's alone. */
+enum snowgimmer_refusal {
+    SNOWGIMMER_SUCCESS = 0,
+    SNOWGIMMER_TABLE_SIZE = 2,
+    SNOWGIMMER_MU_NON_FINITE = 3,
+    SNOWGIMMER_MU_RANGE = 4,
+    SNOWGIMMER_WEIGHT_RANGE = 5,
+    SNOWGIMMER_LENGTH_MISMATCH = 6,
+    SNOWGIMMER_NON_FINITE = 7,
+    SNOWGIMMER_INVALID_RADIUS = 8,
+    SNOWGIMMER_BUDGET_RANGE = 9,
+    SNOWGIMMER_CANDIDATE_LENGTH = 10,
+    SNOWGIMMER_CANDIDATE_DISTANCE = 11,
+    SNOWGIMMER_CANDIDATE_OUTSIDE = 12,
+    SNOWGIMMER_WIDENED_RADIUS = 13,
+    SNOWGIMMER_LIST_SIZE = 14,
+    SNOWGIMMER_BUDGET_EXHAUSTED = 15,
+    SNOWGIMMER_OUTSIDE_RADIUS = 16,
+    SNOWGIMMER_NO_SEED = 17,
+    SNOWGIMMER_LIST_FULL = 18
+};
+
+/* The name of an answer as in the table above, "Success" of 0, and "Unknown" of a number that no function gives. */
+static inline const char *snowgimmer_refusal_name(uint32_t number) {
+    switch (number) {
+    case SNOWGIMMER_SUCCESS: return "Success";
+    case SNOWGIMMER_TABLE_SIZE: return "TableSize";
+    case SNOWGIMMER_MU_NON_FINITE: return "MuNonFinite";
+    case SNOWGIMMER_MU_RANGE: return "MuRange";
+    case SNOWGIMMER_WEIGHT_RANGE: return "WeightRange";
+    case SNOWGIMMER_LENGTH_MISMATCH: return "LengthMismatch";
+    case SNOWGIMMER_NON_FINITE: return "NonFinite";
+    case SNOWGIMMER_INVALID_RADIUS: return "InvalidRadius";
+    case SNOWGIMMER_BUDGET_RANGE: return "BudgetRange";
+    case SNOWGIMMER_CANDIDATE_LENGTH: return "CandidateLength";
+    case SNOWGIMMER_CANDIDATE_DISTANCE: return "CandidateDistance";
+    case SNOWGIMMER_CANDIDATE_OUTSIDE: return "CandidateOutside";
+    case SNOWGIMMER_WIDENED_RADIUS: return "WidenedRadius";
+    case SNOWGIMMER_LIST_SIZE: return "ListSize";
+    case SNOWGIMMER_BUDGET_EXHAUSTED: return "BudgetExhausted";
+    case SNOWGIMMER_OUTSIDE_RADIUS: return "OutsideRadius";
+    case SNOWGIMMER_NO_SEED: return "NoSeed";
+    case SNOWGIMMER_LIST_FULL: return "ListFull";
+    default: return "Unknown";
+    }
+}
+
+/* The nearest integer; of two equally near ones that with the larger magnitude. A value too large for an int64_t gives
+ * INT64_MAX, one too small INT64_MIN, and a NaN 0. */
 int64_t snowgimmer_round_away(double x);
 
 /* Finds the nearest integer vector inside the radius and writes it to out, coordinate 0 first: first is the number of
@@ -55,15 +144,16 @@ uint32_t snowgimmer_nearest_seeded(const double *weights, size_t weights_len, co
     const double *target, size_t target_len, int64_t *out, size_t out_len, const int64_t *candidate,
     size_t candidate_len, double radius, uint64_t budget, uint64_t *first, uint64_t *second, double *real);
 
-/* The same with the nearest-plane point as candidate and its distance as radius. Refused: 2 to 7, 9, 11, 13, 15, 17.
- * Stack: 60 kB. */
+/* The same; the candidate is the nearest-plane point, and the radius that point's distance. Refused: 2 to 7, 9, 11, 13,
+ * 15, 17. Stack: 60 kB. */
 uint32_t snowgimmer_nearest_ml(const double *weights, size_t weights_len, const double *mu, size_t mu_len,
     const double *target, size_t target_len, int64_t *out, size_t out_len, uint64_t budget, uint64_t *first,
     uint64_t *second, double *real);
 
 /* Lists every integer vector admitted at the radius, by distance and then coordinates: the distances go to distances,
  * at most 4096, and n coordinates for each to points, which is n times as long. first is the number of nodes, second
- * that of points; places after the last point keep their contents. Refused: 2 to 9, 14, 15, 18. Stack: 0.95 MB. */
+ * that of points; what lies behind the last point stays as it was. Refused: 2 to 9, 14, 15, 18; 18 tells how many
+ * places would do. Stack: 0.95 MB. */
 uint32_t snowgimmer_list(const double *weights, size_t weights_len, const double *mu, size_t mu_len,
     const double *target, size_t target_len, double *distances, size_t distances_len, int64_t *points,
     size_t points_len, double radius, uint64_t budget, uint64_t *first, uint64_t *second, double *real);

@@ -1,26 +1,25 @@
 //! The nearest integer vector and the list of all within a radius, over a table of two weights.
 
-use snowgimmer::{Refusal, list, nearest};
-
-const WEIGHTS: [f64; 2] = [1.0, 1.0];
-const MU: [f64; 4] = [0.0, 0.0, 0.5, 0.0];
-const TARGET: [f64; 2] = [0.25, 0.5];
+use snowgimmer::{Refusal, Table};
 
 fn main() -> Result<(), Refusal> {
-    let mut out = [0; 2];
-    let nodes = nearest(&WEIGHTS, &MU, &TARGET, &mut out, 2.0, 100)?;
-    println!("nearest: {nodes} nodes, point {out:?}");
+    // mu by rows: only the entry below the diagonal is read
+    let table = Table::from_rows(&[1.0, 1.0], &[[0.0, 0.0], [0.5, 0.0]]);
+    let target = [0.25, 0.5];
 
-    let mut distances = [0.0; 256];
-    let mut points = [0; 512];
-    let listed = list(&WEIGHTS, &MU, &TARGET, &mut distances, &mut points, 2.0, 100)?;
-    println!("list: {} nodes, {} points", listed.nodes, listed.points);
-    for (distance, point) in distances.iter().zip(points.chunks(2)).take(listed.points) {
+    // the radius and the distances are squares
+    let found = table.nearest(&target, 2.0, 100)?;
+    println!("nearest: {} nodes, point {:?}", found.nodes, found.point);
+
+    let (mut distances, mut points) = ([0.0; 256], [0; 512]);
+    let list = table.list(&target, &mut distances, &mut points, 2.0, 100)?;
+    println!("list: {} nodes, {} points", list.nodes, list.distances.len());
+    for (distance, point) in list.iter() {
         println!("  distance {distance}, point {point:?}");
     }
 
     // a budget of 4 nodes is too small by one
-    if let Err(refusal) = nearest(&WEIGHTS, &MU, &TARGET, &mut out, 2.0, 4) {
+    if let Err(refusal) = table.nearest(&target, 2.0, 4) {
         println!("{refusal}");
     }
     Ok(())

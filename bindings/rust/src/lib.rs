@@ -1,8 +1,42 @@
 //! The nearest integer vector to a target in a triangular table's metric, and the list of all within a radius.
 //!
-//! A table is n weights and n·n entries mu, n from 0 to 23; of mu only `mu[j * n + i]` with j > i is read. Every
-//! function is that of the proved library: for all inputs its answer is the one that the library's contract fixes, and
-//! a refusal leaves every slice that it was lent as it was.
+//! For n weights w, entries mu and a target t, n from 0 to 23, each search is over the vectors z of n signed 64-bit
+//! integers, by the least
+//!
+//! ```text
+//! distance(z) = sum over i of  w[i] * (c[i] - z[i])^2
+//! c[i]        = t[i] + sum over j > i of  mu[j*n+i] * (t[j] - z[j])
+//! ```
+//!
+//! which is (t-z)' L W L' (t-z) with W = diag(w) and L the unit lower triangular matrix that has `mu[j*n+i]` in row j
+//! and column i. **Distance and radius are squares**, as this sum is; both are computed in doubles, and "nearest" is by
+//! the computed distance.
+//!
+//! mu is n·n entries **row by row**, of which only those below the diagonal, `mu[j*n+i]` with j > i, are read. A matrix
+//! stored column by column gives the nearest point of another table, and no check can tell; [`Table::from_rows`] takes
+//! rows.
+//!
+//! ```
+//! use snowgimmer::{Refusal, Table};
+//!
+//! let table = Table::from_rows(&[1.0, 1.0], &[[0.0, 0.0], [0.5, 0.0]]);
+//! let target = [0.25, 0.5];
+//! let found = table.nearest(&target, 2.0, 100)?;
+//! assert_eq!(found.point, [0, 1]);
+//! assert_eq!(found.nodes, 5);
+//!
+//! // a budget of 4 nodes is too small by one
+//! let refusal = table.nearest(&target, 2.0, 4).unwrap_err();
+//! assert_eq!(refusal, Refusal::BudgetExhausted { nodes: 4, radius: 0.25 });
+//! # Ok::<(), Refusal>(())
+//! ```
+//!
+//! [`Table`] gives points by value. The functions beside it have the names and arguments of the Rust original, and write
+//! to slices that they are lent. Every one is that of the proved library: for all inputs its answer is the one that the
+//! library's contract fixes, and a refusal leaves every slice that it was lent as it was.
+//!
+//! The crate needs no standard library, allocates nothing and keeps nothing between calls. The variable SNOWGIMMER_LIB
+//! names the folder of `libsnowgimmer.a`, or the file, while a program is built.
 //!
 //! # Why the calls are sound
 //!
@@ -11,10 +45,24 @@
 //! so it overlaps nothing else that is passed; the report's three fields are a local's. The library keeps no pointer,
 //! and its functions are proved safe for every input.
 
+#![no_std]
+#![warn(missing_docs)]
+
 mod ffi;
 mod refusal;
+mod table;
 
 pub use refusal::Refusal;
+pub use table::{List, Nearest, Point, Table};
+
+/// The largest n.
+pub const LARGEST_DIMENSION: usize = 23;
+
+/// The most places that a list may be lent.
+pub const LARGEST_LIST: usize = 4096;
+
+/// The largest budget.
+pub const LARGEST_BUDGET: u64 = 1 << 60;
 
 /// What a call tells beside the slices that it is lent.
 #[derive(Default)]
@@ -33,15 +81,26 @@ fn told(call: impl FnOnce(&mut Report) -> u32) -> Result<Report, Refusal> {
     }
 }
 
-/// The nearest integer, halves away from zero. From 2^63 up it is `i64::MAX`, from -2^63 down `i64::MIN`, and 0 of a
-/// NaN.
+/// The nearest integer; of two equally near ones that with the larger magnitude. A value too large for an `i64` gives
+/// `i64::MAX`, one too small `i64::MIN`, and a NaN 0.
+///
+/// ```
+/// assert_eq!([0.5, -0.5, -2.5, f64::NAN].map(snowgimmer::round_away), [1, -1, -3, 0]);
+/// ```
 #[must_use]
 pub fn round_away(x: f64) -> i64 {
     ffi::snowgimmer_round_away(x)
 }
 
 /// Finds the nearest integer vector inside the radius, writes it to `out`, coordinate 0 first, and gives the number of
-/// nodes.
+/// nodes. The radius is a square.
+///
+/// ```
+/// let mut out = [0; 2];
+/// let nodes = snowgimmer::nearest(&[1.0, 1.0], &[0.0, 0.0, 0.5, 0.0], &[0.25, 0.5], &mut out, 2.0, 100)?;
+/// assert_eq!((nodes, out), (5, [0, 1]));
+/// # Ok::<(), snowgimmer::Refusal>(())
+/// ```
 ///
 /// # Errors
 ///
@@ -76,7 +135,14 @@ pub fn nearest(
 }
 
 /// Finds the nearest integer vector inside the widened radius, a candidate inside the radius being known, writes it to
-/// `out` and gives the number of nodes.
+/// `out` and gives the number of nodes. The radius is a square; widened it is radius + (2^-52·max(radius, 1))·4n.
+///
+/// ```
+/// let mut out = [0];
+/// let nodes = snowgimmer::nearest_seeded(&[1.0], &[0.0], &[0.5], &mut out, &[2], 2.25, 100)?;
+/// assert_eq!((nodes, out), (4, [0]));
+/// # Ok::<(), snowgimmer::Refusal>(())
+/// ```
 ///
 /// # Errors
 ///
@@ -114,8 +180,15 @@ pub fn nearest_seeded(
     Ok(report.first)
 }
 
-/// Finds the nearest integer vector, from the nearest-plane point as candidate and its distance as radius, writes it to
-/// `out` and gives the number of nodes.
+/// Finds the nearest integer vector, writes it to `out` and gives the number of nodes. The candidate is the
+/// nearest-plane point, and the radius that point's distance.
+///
+/// ```
+/// let mut out = [0];
+/// let nodes = snowgimmer::nearest_ml(&[4.0], &[0.0], &[0.75], &mut out, 100)?;
+/// assert_eq!((nodes, out), (1, [1]));
+/// # Ok::<(), snowgimmer::Refusal>(())
+/// ```
 ///
 /// # Errors
 ///
@@ -144,14 +217,25 @@ pub fn nearest_ml(weights: &[f64], mu: &[f64], target: &[f64], out: &mut [i64], 
 
 /// What a list gives beside the slices that it writes.
 #[derive(Debug, Clone, Copy, PartialEq, Eq)]
+#[non_exhaustive]
 pub struct Listed {
+    /// How many nodes the search tried.
     pub nodes: u64,
+    /// How many points it wrote.
     pub points: usize,
 }
 
 /// Lists every integer vector that is admitted at the radius, by distance and then coordinates: the distances go to
-/// `distances`, at most 4,096, and n coordinates for each to `points`, which is n times as long. Places after the last
-/// point keep their contents. The call needs about 0.95 MB of stack.
+/// `distances`, at most 4,096, and n coordinates for each to `points`, which is n times as long. What lies behind
+/// the last point stays as it was. The radius and the distances are squares. The call needs about 0.95 MB of stack.
+///
+/// ```
+/// let (mut distances, mut points) = ([0.0; 4], [7; 4]);
+/// let listed = snowgimmer::list(&[1.0], &[0.0], &[0.5], &mut distances, &mut points, 1.0, 100)?;
+/// assert_eq!((listed.nodes, listed.points), (2, 2));
+/// assert_eq!((distances, points), ([0.25, 0.25, 0.0, 0.0], [0, 1, 7, 7]));
+/// # Ok::<(), snowgimmer::Refusal>(())
+/// ```
 ///
 /// # Errors
 ///
@@ -190,6 +274,13 @@ pub fn list(
 
 /// Writes [`round_away`] of each coefficient to `out`.
 ///
+/// ```
+/// let mut out = [0; 3];
+/// snowgimmer::round(&[0.5, -2.5, 1e300], &mut out)?;
+/// assert_eq!(out, [1, -3, i64::MAX]);
+/// # Ok::<(), snowgimmer::Refusal>(())
+/// ```
+///
 /// # Errors
 ///
 /// [`Refusal::LengthMismatch`]; [`Refusal::NonFinite`].
@@ -210,6 +301,13 @@ pub fn round(coefficients: &[f64], out: &mut [i64]) -> Result<(), Refusal> {
 }
 
 /// Babai's nearest plane: writes the point z to `out` and leaves t - z in the coefficients, which hold t.
+///
+/// ```
+/// let (mut coefficients, mut out) = ([0.25, 0.5], [0; 2]);
+/// snowgimmer::nearest_plane(&[1.0, 1.0], &[0.0, 0.0, 0.5, 0.0], &mut coefficients, &mut out)?;
+/// assert_eq!((coefficients, out), ([0.25, -0.5], [0, 1]));
+/// # Ok::<(), snowgimmer::Refusal>(())
+/// ```
 ///
 /// # Errors
 ///
@@ -235,7 +333,11 @@ pub fn nearest_plane(weights: &[f64], mu: &[f64], coefficients: &mut [f64], out:
     Ok(())
 }
 
-/// The computed distance of a point.
+/// The computed distance of a point, a square.
+///
+/// ```
+/// assert_eq!(snowgimmer::triangular_distance(&[1.0], &[0.0], &[0.5], &[2]), Ok(2.25));
+/// ```
 ///
 /// # Errors
 ///

@@ -1,45 +1,103 @@
 //! The numbered refusals, with what each carries.
 
-use std::error::Error;
-use std::fmt;
+use core::error::Error;
+use core::fmt;
 
-/// Why a call was refused.
+/// Why a call was refused. Its number is that of the library's header; `Display` gives a sentence.
 #[derive(Debug, Clone, Copy, PartialEq)]
+#[non_exhaustive]
 pub enum Refusal {
-    /// 2: n above 23, or mu not n·n long.
-    TableSize { weights: usize },
+    /// 2: more than 23 weights, or mu of another length than n·n.
+    TableSize {
+        /// How many weights there are.
+        weights: usize,
+    },
     /// 3: an entry of mu that is read is not finite.
-    MuNonFinite { index: usize },
+    MuNonFinite {
+        /// Its index among the n·n.
+        index: usize,
+    },
     /// 4: an entry of mu that is read is above 2^52 in magnitude.
-    MuRange { index: usize },
+    MuRange {
+        /// Its index among the n·n.
+        index: usize,
+    },
     /// 5: a weight is not finite or not above 0.
-    WeightRange { index: usize },
+    WeightRange {
+        /// Its index.
+        index: usize,
+    },
     /// 6: a slice is not as long as expected.
-    LengthMismatch { expected: usize, found: usize },
-    /// 7: a target is not finite or, but in `round` and `nearest_plane`, above 2^52 in magnitude.
-    NonFinite { index: usize },
+    LengthMismatch {
+        /// The length that it should have.
+        expected: usize,
+        /// The length that it has; in `nearest_plane` that of the coefficients, also where the output is the wrong one.
+        found: usize,
+    },
+    /// 7: a target or a coefficient is not finite, or a target is above 2^52 in magnitude.
+    NonFinite {
+        /// Its index.
+        index: usize,
+    },
     /// 8: the radius is negative or not finite.
-    InvalidRadius { radius: f64 },
+    InvalidRadius {
+        /// The radius.
+        radius: f64,
+    },
     /// 9: the budget is above 2^60.
-    BudgetRange { budget: u64 },
+    BudgetRange {
+        /// The budget.
+        budget: u64,
+    },
     /// 10: the candidate is not n long.
-    CandidateLength { expected: usize, found: usize },
+    CandidateLength {
+        /// n.
+        expected: usize,
+        /// The candidate's length.
+        found: usize,
+    },
     /// 11: the distance of the candidate, or of the point, overflows.
-    CandidateDistance { total: f64 },
+    CandidateDistance {
+        /// The sum that is not finite.
+        total: f64,
+    },
     /// 12: the candidate's distance is above the radius.
-    CandidateOutside { radius: f64 },
+    CandidateOutside {
+        /// The radius.
+        radius: f64,
+    },
     /// 13: the widened radius is not finite.
-    WidenedRadius { radius: f64 },
-    /// 14: over 4,096 distances, or points not n times as many.
-    ListSize { distances: usize },
-    /// 15: the budget ran out, with the radius that stood then.
-    BudgetExhausted { nodes: u64, radius: f64 },
+    WidenedRadius {
+        /// The widened radius.
+        radius: f64,
+    },
+    /// 14: more than 4,096 distances, or points without n integers for each.
+    ListSize {
+        /// How many distances there are.
+        distances: usize,
+    },
+    /// 15: the budget ran out.
+    BudgetExhausted {
+        /// How many nodes were tried.
+        nodes: u64,
+        /// The radius that stood when the search stopped.
+        radius: f64,
+    },
     /// 16: no vector is inside the radius.
-    OutsideRadius { radius: f64 },
-    /// 17: a seeded or ml search found nothing inside the widened radius.
-    NoSeed { radius: f64 },
+    OutsideRadius {
+        /// The radius.
+        radius: f64,
+    },
+    /// 17: a seeded or ml search found nothing inside the widened radius. It is proved that this never comes.
+    NoSeed {
+        /// The widened radius.
+        radius: f64,
+    },
     /// 18: more points than places.
-    ListFull { points: usize },
+    ListFull {
+        /// How many points there are.
+        points: usize,
+    },
 }
 
 impl Refusal {
@@ -95,7 +153,45 @@ impl Refusal {
 
 impl fmt::Display for Refusal {
     fn fmt(&self, f: &mut fmt::Formatter<'_>) -> fmt::Result {
-        write!(f, "refused {}: {self:?}", self.number())
+        write!(f, "refused {}: ", self.number())?;
+        match *self {
+            Self::TableSize { weights: n } if n > 23 => {
+                write!(f, "the table has {n} weights, and at most 23 are taken")
+            }
+            Self::TableSize { weights: n } => write!(f, "mu does not have the {} entries that {n} weights need", n * n),
+            Self::MuNonFinite { index } => write!(f, "mu[{index}] is not finite"),
+            Self::MuRange { index } => write!(f, "mu[{index}] is above 2^52 in magnitude"),
+            Self::WeightRange { index } => write!(f, "weights[{index}] is not a finite number above 0"),
+            Self::LengthMismatch { expected: n, found } if n == found => write!(f, "the output is not {n} long"),
+            Self::LengthMismatch { expected: n, found } => write!(f, "a slice has the length {found}, not {n}"),
+            Self::NonFinite { index: i } => {
+                write!(f, "target or coefficient {i} is not finite, or above 2^52 in magnitude")
+            }
+            Self::InvalidRadius { radius } => write!(f, "the radius {radius:?} is negative or not finite"),
+            Self::BudgetRange { budget } => write!(f, "the budget {budget} is above 2^60"),
+            Self::CandidateLength { expected: n, found } => write!(f, "the candidate has {found} coordinates, not {n}"),
+            Self::CandidateDistance { total } => {
+                write!(f, "the distance of the candidate or point overflows to {total:?}")
+            }
+            Self::CandidateOutside { radius } => write!(f, "the candidate's distance is above the radius {radius:?}"),
+            Self::WidenedRadius { radius } => write!(f, "the widened radius is {radius:?}, and has to be finite"),
+            Self::ListSize { distances: d } => {
+                write!(f, "{d} distances: at most 4096 are taken, and n coordinates for each")
+            }
+            Self::BudgetExhausted { nodes, radius } => {
+                write!(
+                    f,
+                    "the budget ran out after {nodes} nodes, with the radius at {radius:?}: a larger budget may do"
+                )
+            }
+            Self::OutsideRadius { radius } => {
+                write!(f, "no vector is inside the radius {radius:?}: a larger one may do")
+            }
+            Self::NoSeed { radius } => write!(f, "no vector is inside the widened radius {radius:?}"),
+            Self::ListFull { points } => {
+                write!(f, "the list has {points} points: lend as many places, or lower the radius")
+            }
+        }
     }
 }
 

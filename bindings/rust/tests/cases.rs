@@ -44,7 +44,7 @@ impl Bench<'_> {
     fn list(&self, radius: f64, budget: u64) -> Result<(u64, Points), Refusal> {
         let n = self.weights.len();
         let (mut distances, mut points) = (vec![0.0; 256], vec![0; 256 * n]);
-        let Listed { nodes, points: count } =
+        let Listed { nodes, points: count, .. } =
             list(self.weights, self.mu, self.target, &mut distances, &mut points, radius, budget)?;
         Ok((nodes, (0..count).map(|i| (distances[i], points[i * n..(i + 1) * n].to_vec())).collect()))
     }

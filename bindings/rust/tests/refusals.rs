@@ -134,6 +134,21 @@ fn distances() {
 
 #[test]
 fn told_in_words() {
-    let refusal = Refusal::LengthMismatch { expected: 2, found: 1 };
-    assert_eq!(refusal.to_string(), "refused 6: LengthMismatch { expected: 2, found: 1 }");
+    let told = |refusal: Refusal, words: &str| assert_eq!(refusal.to_string(), words);
+    told(Refusal::TableSize { weights: 24 }, "refused 2: the table has 24 weights, and at most 23 are taken");
+    told(Refusal::TableSize { weights: 2 }, "refused 2: mu does not have the 4 entries that 2 weights need");
+    told(Refusal::MuRange { index: 2 }, "refused 4: mu[2] is above 2^52 in magnitude");
+    told(Refusal::LengthMismatch { expected: 2, found: 1 }, "refused 6: a slice has the length 1, not 2");
+    told(Refusal::LengthMismatch { expected: 2, found: 2 }, "refused 6: the output is not 2 long");
+    told(Refusal::InvalidRadius { radius: -1e300 }, "refused 8: the radius -1e300 is negative or not finite");
+    told(
+        Refusal::BudgetExhausted { nodes: 4, radius: 0.25 },
+        "refused 15: the budget ran out after 4 nodes, with the radius at 0.25: a larger budget may do",
+    );
+    told(
+        Refusal::ListFull { points: 5 },
+        "refused 18: the list has 5 points: lend as many places, or lower the radius",
+    );
+    let error: &dyn std::error::Error = &Refusal::NoSeed { radius: 1.0 };
+    assert_eq!(error.to_string(), "refused 17: no vector is inside the widened radius 1.0");
 }

@@ -1,6 +1,6 @@
 //! The stack that the calls need at n = 23: 1 MB holds a list, and 64 kB the other searches.
 
-use snowgimmer::{Listed, Refusal, list, nearest, nearest_ml, nearest_seeded};
+use snowgimmer::{Refusal, list, nearest, nearest_ml, nearest_seeded};
 use std::thread;
 
 const N: usize = 23;
@@ -31,6 +31,6 @@ fn searches() {
 fn lists() {
     let (mut distances, mut points) = (vec![0.0; 4096], vec![1; 4096 * N]);
     let listed = within(1 << 20, || list(&WEIGHTS, &MU, &TARGET, &mut distances, &mut points, 0.0, 1000));
-    assert_eq!(listed, Ok(Listed { nodes: N as u64, points: 1 }));
+    assert_eq!(listed.map(|l| (l.nodes, l.points)), Ok((N as u64, 1)));
     assert_eq!((distances[0], &points[..N]), (0.0, &ZERO[..]));
 }

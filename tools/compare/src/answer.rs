@@ -3,7 +3,7 @@
 use crate::case::{Call, Case};
 use std::fmt;
 
-/// A refusal by document 01's number, with its values in the places that the port's C interface gives them.
+/// A refusal by the specification's number, with its values in the places that the port's C interface gives them.
 #[derive(Clone, Copy, PartialEq, Eq, Debug, Default)]
 pub struct Report {
     /// 0 for a success.

@@ -1,5 +1,5 @@
-//! What the port must answer: the Rust's answer under document 01's numbers, and document 01's own refusal where the
-//! Rust has none. Where both speak they must agree; if they do not, that is reported and document 01 stands.
+//! What the port must answer: the Rust's answer under the specification's numbers, and the specified refusal where the
+//! Rust has none. Where both speak they must agree; if they do not, that is reported and the specification stands.
 
 use crate::answer::{Answer, Report, before};
 use crate::case::{Call, Case};
@@ -10,14 +10,14 @@ use oracle::error::DecodeError;
 
 pub struct Expected {
     pub answer: Answer,
-    /// Where document 01's reading and the Rust differ.
+    /// Where the plain reading of the specification and the Rust differ.
     pub disagreement: Option<String>,
 }
 
 /// The refusals that the Rust does not have; 18 is seen only when it has listed.
 const ADDED: [u32; 6] = [2, 3, 4, 5, 9, 14];
 
-/// No refusal: it stands where the Rust names an error that document 01 has no place for.
+/// No refusal: it stands where the Rust names an error that the specification has no place for.
 const UNKNOWN: u32 = u32::MAX;
 
 #[must_use]
@@ -29,25 +29,25 @@ pub fn expected(case: &Case) -> Expected {
     match (own, rust(case)) {
         (Some(report), rust) => {
             let same = matches!(rust, Err(error) if agrees(error, report));
-            let disagreement = (!same).then(|| format!("document 01 refuses by {report:?}, the Rust says {rust:?}"));
+            let disagreement = (!same).then(|| format!("the reading refuses by {report:?}, the Rust says {rust:?}"));
             Expected { answer: Answer::untouched(case, report), disagreement }
         }
         (None, Ok(answer)) => Expected { disagreement: second_reading(case, &answer), answer },
         (None, Err(error)) => {
             let report = search_refusal(case.call, error);
             let stray = report.number == UNKNOWN;
-            let disagreement = stray.then(|| format!("document 01 takes the call, the Rust says {error:?}"));
+            let disagreement = stray.then(|| format!("the reading takes the call, the Rust says {error:?}"));
             Expected { answer: Answer::untouched(case, report), disagreement }
         }
     }
 }
 
-/// Whether the Rust has a verdict of its own where document 01 refuses by `number`. Its distance checks no lengths.
+/// Whether the Rust has a verdict of its own where the reading refuses by `number`. Its distance checks no lengths.
 fn asked(case: &Case, number: u32) -> bool {
     !(ADDED.contains(&number) || (case.call == Call::Distance && matches!(number, 6 | 7)))
 }
 
-/// The Rust's names for document 01's numbers, with the same values.
+/// The Rust's names for the specification's numbers, with the same values.
 fn agrees(error: DecodeError, report: Report) -> bool {
     let (numbers, same): (&[u32], Report) = match error {
         DecodeError::LengthMismatch { expected, found } => (&[6, 10], Report::whole(0, expected as u64, found as u64)),
@@ -112,7 +112,7 @@ fn listed(case: &Case, table: &Enumerator) -> Result<Answer, DecodeError> {
     Ok(Answer { report: Report::whole(0, nodes, list.len() as u64), integers, doubles })
 }
 
-/// Document 01's own reading beside a success of the Rust: where there is one, and how it differs.
+/// The plain reading beside a success of the Rust: where there is one, and how it differs.
 fn second_reading(case: &Case, answer: &Answer) -> Option<String> {
     let same = match case.call {
         Call::RoundAway | Call::Round => case.target.iter().map(|&x| paper::round_away(x)).eq(answer.integers.clone()),
@@ -128,7 +128,7 @@ fn second_reading(case: &Case, answer: &Answer) -> Option<String> {
         Call::List if answer.report.number == 0 => least_budget(case, answer.report.first),
         _ => true,
     };
-    (!same).then(|| format!("document 01's reading differs from the Rust's {answer}"))
+    (!same).then(|| format!("the plain reading differs from the Rust's {answer}"))
 }
 
 /// Whether the Rust's list takes a budget of `nodes` and no smaller one.

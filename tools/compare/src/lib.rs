@@ -1,4 +1,4 @@
-//! Compares the port's static library with the Rust original and with document 01, a case at a time.
+//! Compares the port's static library with the Rust original and with the specification, a case at a time.
 
 pub mod answer;
 pub mod case;
@@ -19,7 +19,7 @@ use case::Case;
 pub struct Difference {
     pub port: Answer,
     pub expected: Answer,
-    /// What else is amiss: a slice that had to stay, or a disagreement of document 01 and the Rust.
+    /// What else is amiss: a slice that had to stay, or a disagreement of the specification and the Rust.
     pub remarks: Vec<String>,
 }
 

@@ -1,4 +1,4 @@
-//! A plain reading of document 01: its rounding, distance, seeds and opened prefixes, and its checks in their order.
+//! A plain reading of docs/SPECIFICATION.md: rounding, distance, seeds and opened prefixes, and the checks in order.
 //! Nothing here is taken from the port or from the Rust.
 
 use crate::answer::Report;
@@ -89,7 +89,7 @@ impl Opened<'_> {
     }
 }
 
-/// The number of prefixes opened at the radius, if it is at most `cap`.
+/// How many prefixes are opened at the radius, if at most `cap`.
 #[must_use]
 pub fn opened(case: &Case, radius: f64, cap: u64) -> Option<u64> {
     let n = case.weights.len();
@@ -139,7 +139,7 @@ fn lengths(case: &Case) -> Option<Report> {
         Call::RoundAway => None,
         Call::Round if places != target => mismatch(target, places),
         Call::Round => None,
-        // It names the coefficients' length even when the output is the wrong one.
+        // One check of both lengths, which names that of the coefficients.
         Call::Plane if target != n || places != n => mismatch(n, target),
         _ if target != n => mismatch(n, target),
         Call::Distance if case.candidate.len() != n => mismatch(n, case.candidate.len()),

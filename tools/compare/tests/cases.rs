@@ -1,4 +1,4 @@
-//! Document 01's bench cases A to L: the answers that it prints, of the port and of what the comparison expects.
+//! The specification's bench cases A to L: the answers that it gives, of the port and of what the comparison expects.
 
 use compare::answer::{Answer, Report, before};
 use compare::case::{Call, Case};

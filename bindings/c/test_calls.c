@@ -1,0 +1,148 @@
+/* Every function and every number but 17, which no call gives, through the header as C99 and as C++. It prints what
+ * differs; tools/test_install compiles and runs it. */
+#include <float.h>
+#include <math.h>
+#include <stdio.h>
+#include <string.h>
+
+#include "snowgimmer.h"
+
+#define N 2
+#define MOST (SNOWGIMMER_LARGEST_LIST + 1)
+
+static const double weights[N] = {1.0, 1.0};
+static const double mu[N * N] = {0.0, 0.0, 0.5, 0.0};
+static const double target[N] = {0.25, 0.5};
+
+static uint64_t first, second;
+static double real;
+static int differences;
+
+/* What a call told is what was expected of it. */
+static void expect(const char *what, uint32_t number, uint32_t expected, uint64_t one, uint64_t two, double three) {
+    if (number == expected && first == one && second == two && real == three) return;
+    printf("%s: %u %s (%llu, %llu, %g), expected %u %s (%llu, %llu, %g)\n", what, (unsigned)number,
+        snowgimmer_refusal_name(number), (unsigned long long)first, (unsigned long long)second, real,
+        (unsigned)expected, snowgimmer_refusal_name(expected), (unsigned long long)one, (unsigned long long)two, three);
+    differences++;
+}
+
+static void expect_true(const char *what, int holds) {
+    if (holds) return;
+    printf("%s: differs\n", what);
+    differences++;
+}
+
+static void expect_point(const char *what, const int64_t *point, int64_t one, int64_t two) {
+    expect_true(what, point[0] == one && point[1] == two);
+}
+
+static void expect_name(uint32_t number, const char *name) {
+    expect_true(name, strcmp(snowgimmer_refusal_name(number), name) == 0);
+}
+
+/* nearest over a table and target of n = 2, into an output that a refusal must leave alone */
+static uint32_t nearest(const double *w, const double *m, size_t m_len, const double *t, double radius,
+    uint64_t budget) {
+    int64_t out[N] = {7, 8};
+    uint32_t number = snowgimmer_nearest(w, N, m, m_len, t, N, out, N, radius, budget, &first, &second, &real);
+    if (number == SNOWGIMMER_SUCCESS) expect_point("nearest", out, 0, 1);
+    else expect_point("nearest, refused", out, 7, 8);
+    return number;
+}
+
+static void searches(void) {
+    expect("nearest", nearest(weights, mu, 4, target, 2.0, 100), SNOWGIMMER_SUCCESS, 5, 0, 0.0);
+    expect("budget", nearest(weights, mu, 4, target, 2.0, 4), SNOWGIMMER_BUDGET_EXHAUSTED, 4, 0, 0.25);
+    expect("outside", nearest(weights, mu, 4, target, 0.125, 100), SNOWGIMMER_OUTSIDE_RADIUS, 0, 0, 0.125);
+    expect("radius", nearest(weights, mu, 4, target, -1.0, 100), SNOWGIMMER_INVALID_RADIUS, 0, 0, -1.0);
+    const uint64_t most = SNOWGIMMER_LARGEST_BUDGET;
+    expect("largest budget", nearest(weights, mu, 4, target, 2.0, most), SNOWGIMMER_SUCCESS, 5, 0, 0.0);
+    expect("larger budget", nearest(weights, mu, 4, target, 2.0, most + 1), SNOWGIMMER_BUDGET_RANGE, most + 1, 0, 0.0);
+    int64_t out[N];
+    uint32_t number = snowgimmer_nearest_ml(weights, N, mu, N * N, target, N, out, N, 100, &first, &second, &real);
+    expect("ml", number, SNOWGIMMER_SUCCESS, 3, 0, 0.0);
+    expect_point("ml", out, 0, 1);
+}
+
+static void tables(void) {
+    const double zero[N] = {1.0, 0.0}, far[N] = {0.25, SNOWGIMMER_COORD_LIMIT + 1.0};
+    const double infinite[N * N] = {0.0, 0.0, HUGE_VAL, 0.0}, large[N * N] = {0.0, 0.0, -1e16, 0.0};
+    expect("mu too short", nearest(weights, mu, 3, target, 2.0, 100), SNOWGIMMER_TABLE_SIZE, 2, 0, 0.0);
+    expect("mu infinite", nearest(weights, infinite, 4, target, 2.0, 100), SNOWGIMMER_MU_NON_FINITE, 2, 0, 0.0);
+    expect("mu large", nearest(weights, large, 4, target, 2.0, 100), SNOWGIMMER_MU_RANGE, 2, 0, 0.0);
+    expect("weight 0", nearest(zero, mu, 4, target, 2.0, 100), SNOWGIMMER_WEIGHT_RANGE, 1, 0, 0.0);
+    expect("target", nearest(weights, mu, 4, far, 2.0, 100), SNOWGIMMER_NON_FINITE, 1, 0, 0.0);
+    int64_t out[3] = {7, 8, 9};
+    expect("output", snowgimmer_nearest(weights, N, mu, 4, target, N, out, 3, 2.0, 9, &first, &second, &real),
+        SNOWGIMMER_LENGTH_MISMATCH, 2, 3, 0.0);
+}
+
+/* nearest_seeded over one weight with target 0.5 */
+static uint32_t seeded(double weight, int64_t candidate, size_t len, double radius) {
+    const double zero = 0.0, half = 0.5;
+    int64_t out = 7;
+    const int64_t candidates[N] = {candidate, 0};
+    return snowgimmer_nearest_seeded(&weight, 1, &zero, 1, &half, 1, &out, 1, candidates, len, radius, 100, &first,
+        &second, &real);
+}
+
+static void candidates(void) {
+    expect("seeded", seeded(1.0, 2, 1, 2.25), SNOWGIMMER_SUCCESS, 4, 0, 0.0);
+    expect("candidate's length", seeded(1.0, 2, 2, 2.25), SNOWGIMMER_CANDIDATE_LENGTH, 1, 2, 0.0);
+    expect("distance overflows", seeded(DBL_MAX, 1 << 30, 1, 1.0), SNOWGIMMER_CANDIDATE_DISTANCE, 0, 0, HUGE_VAL);
+    expect("candidate outside", seeded(1.0, 2, 1, 2.0), SNOWGIMMER_CANDIDATE_OUTSIDE, 0, 0, 2.0);
+    expect("widened radius", seeded(1.0, 0, 1, DBL_MAX), SNOWGIMMER_WIDENED_RADIUS, 0, 0, HUGE_VAL);
+}
+
+static double distances[MOST];
+static int64_t points[MOST * N];
+
+/* list at radius 2 into so many places */
+static uint32_t list(size_t places) {
+    return snowgimmer_list(weights, N, mu, N * N, target, N, distances, places, points, places * N, 2.0, 100, &first,
+        &second, &real);
+}
+
+static void lists(void) {
+    expect("list", list(8), SNOWGIMMER_SUCCESS, 7, 5, 0.0);
+    expect_point("list, nearest", points, 0, 1);
+    expect_point("list, farthest", points + 4 * N, 1, 1);
+    expect("list full", list(4), SNOWGIMMER_LIST_FULL, 5, 0, 0.0);
+    expect("list size", list(MOST), SNOWGIMMER_LIST_SIZE, MOST, 0, 0.0);
+}
+
+static void seeds(void) {
+    double coefficients[N] = {0.25, 0.5};
+    int64_t out[N];
+    uint32_t number = snowgimmer_round(coefficients, N, out, N, &first, &second, &real);
+    expect("round", number, SNOWGIMMER_SUCCESS, 0, 0, 0.0);
+    expect_point("round", out, 0, 1);
+    number = snowgimmer_nearest_plane(weights, N, mu, N * N, coefficients, N, out, N, &first, &second, &real);
+    expect("nearest plane", number, SNOWGIMMER_SUCCESS, 0, 0, 0.0);
+    expect_point("nearest plane", out, 0, 1);
+    expect_true("coefficients", coefficients[0] == 0.25 && coefficients[1] == -0.5);
+    number = snowgimmer_distance(weights, N, mu, N * N, target, N, out, N, &first, &second, &real);
+    expect("distance", number, SNOWGIMMER_SUCCESS, 0, 0, 0.25);
+    expect_true("round_away", snowgimmer_round_away(-2.5) == -3);
+}
+
+static void names(void) {
+    static const char *const all[] = {"Success", "Unknown", "TableSize", "MuNonFinite", "MuRange", "WeightRange",
+        "LengthMismatch", "NonFinite", "InvalidRadius", "BudgetRange", "CandidateLength", "CandidateDistance",
+        "CandidateOutside", "WidenedRadius", "ListSize", "BudgetExhausted", "OutsideRadius", "NoSeed", "ListFull",
+        "Unknown"};
+    for (uint32_t number = 0; number < 20; number++) expect_name(number, all[number]);
+    expect_name(UINT32_MAX, "Unknown");
+}
+
+int main(void) {
+    searches();
+    tables();
+    candidates();
+    lists();
+    seeds();
+    names();
+    if (differences == 0) printf("all as expected\n");
+    return differences != 0;
+}

@@ -1,0 +1,210 @@
+"""The nearest integer vector to a target in a triangular table's metric, and the list of all within a radius.
+
+For n weights w, entries mu and a target t, n from 0 to 23, each search is over the vectors z of n signed 64-bit
+integers, by the least
+
+    distance(z) = sum over i of  w[i] * (c[i] - z[i])**2
+    c[i]        = t[i] + sum over j > i of  mu[j][i] * (t[j] - z[j])
+
+This is (t-z)' L W L' (t-z) with W = diag(w) and L the unit lower triangular matrix that has mu[j][i] in row j and
+column i. DISTANCE AND RADIUS ARE SQUARES, as this sum is. Both are computed in doubles, and "nearest" is by the
+computed distance.
+
+Arguments, the same in every function:
+
+    weights  n numbers, finite and above 0
+    mu       n rows of n numbers, or the n*n numbers flat, row by row. Only mu[j][i] with j > i, below the diagonal, is
+             read; the rest may hold anything. A transposed table gives another table's nearest point, without a word
+    target   n numbers, up to 2**52 in magnitude
+    radius   the square of the largest length that is searched, finite and not negative
+    budget   how many nodes the search may try, up to 2**60; a search with more to try is refused. A call can't be
+             interrupted, so choose one that ends in time
+
+A sequence is a list, a tuple, an array or the like. Numbers that no double is exactly, integers beyond 64 bits, bools
+and strings raise ValueError or TypeError, and so do arrays of a wrong shape or in column-major order. What the library
+refuses raises a `Refusal`, which has a class for each number.
+
+    >>> weights, mu, target = [1, 1], [[0, 0], [0.5, 0]], [0.25, 0.5]
+    >>> nearest(weights, mu, target, radius=2, budget=100)
+    Nearest(point=(0, 1), nodes=5)
+    >>> list_points(weights, mu, target, radius=0.5, budget=100).points[0]
+    ListedPoint(distance=0.25, point=(0, 1))
+    >>> try:
+    ...     nearest(weights, mu, target, radius=2, budget=4)
+    ... except BudgetExhausted as refusal:
+    ...     print(refusal.number, refusal.name, refusal.values)
+    15 BudgetExhausted {'nodes': 4, 'radius': 0.25}
+"""
+
+import ctypes
+from typing import NamedTuple, Tuple
+
+from . import library as _library
+from . import values as _values
+from .refusals import (
+    BudgetExhausted, BudgetRange, CandidateDistance, CandidateLength, CandidateOutside, InvalidRadius, LengthMismatch,
+    ListFull, ListSize, MuNonFinite, MuRange, NoSeed, NonFinite, OutsideRadius, Refusal, TableSize, WeightRange,
+    WidenedRadius)
+from .refusals import refusal as _refusal
+
+__version__ = "0.1.0"
+
+LARGEST_DIMENSION = 23
+LARGEST_LIST = 4096
+LARGEST_BUDGET = 2**60
+
+__all__ = [
+    "nearest", "nearest_seeded", "nearest_ml", "list_points", "triangular_distance", "nearest_plane",
+    "round_coefficients", "round_away", "Nearest", "Listed", "ListedPoint", "Plane",
+    "LARGEST_DIMENSION", "LARGEST_LIST", "LARGEST_BUDGET", "Refusal", "TableSize", "MuNonFinite", "MuRange",
+    "WeightRange", "LengthMismatch", "NonFinite", "InvalidRadius", "BudgetRange", "CandidateLength",
+    "CandidateDistance", "CandidateOutside", "WidenedRadius", "ListSize", "BudgetExhausted", "OutsideRadius", "NoSeed",
+    "ListFull",
+]
+
+_loaded = _library.load()
+
+
+class Nearest(NamedTuple):
+    """What a nearest search gives."""
+
+    point: Tuple[int, ...]  #: the nearest vector, coordinate 0 first
+    nodes: int  #: how many nodes the search tried
+
+
+class ListedPoint(NamedTuple):
+    """A vector of a list."""
+
+    distance: float  #: its computed distance, a square
+    point: Tuple[int, ...]  #: its coordinates
+
+
+class Listed(NamedTuple):
+    """What a list gives."""
+
+    points: Tuple[ListedPoint, ...]  #: every vector that is admitted, by distance and then coordinates
+    nodes: int  #: how many nodes the search tried
+
+
+class Plane(NamedTuple):
+    """What the nearest plane gives."""
+
+    point: Tuple[int, ...]  #: the nearest-plane point z
+    residual: Tuple[float, ...]  #: t - z, rounded
+
+
+class _Table:
+    """A table and a target as the library takes them."""
+
+    def __init__(self, weights, mu, target, target_name="target"):
+        self.weights = _values.doubles("weights", weights)
+        self.n = len(self.weights)
+        self.mu = _values.square("mu", mu, self.n)
+        self.target = _values.doubles(target_name, target)
+
+    def slices(self):
+        return self.weights, self.mu, self.target
+
+    def point(self):
+        """A point for the library to write."""
+        return (ctypes.c_int64 * self.n)()
+
+
+def _call(name, slices, *numbers):
+    """Calls the library with slices, each with its length, and numbers; gives its report, or raises the refusal."""
+    report = ctypes.c_uint64(), ctypes.c_uint64(), ctypes.c_double()
+    lent = [part for each in slices for part in (each, len(each))]
+    number = getattr(_loaded, f"snowgimmer_{name}")(*lent, *numbers, *map(ctypes.byref, report))
+    first, second, real = (each.value for each in report)
+    if number != 0:
+        raise _refusal(number, first, second, real)
+    return first, second, real
+
+
+def _budget(budget):
+    return _values.whole("budget", budget, 0, 2**64 - 1)
+
+
+def nearest(weights, mu, target, radius, budget):
+    """The nearest integer vector inside the radius, as a `Nearest`. The radius is a square.
+
+    Raises 2 to 9 for the table and the arguments, BudgetExhausted, and OutsideRadius if no vector is inside the radius.
+    """
+    table = _Table(weights, mu, target)
+    radius, budget, out = _values.double("radius", radius), _budget(budget), table.point()
+    nodes, _, _ = _call("nearest", (*table.slices(), out), radius, budget)
+    return Nearest(tuple(out), nodes)
+
+
+def nearest_seeded(weights, mu, target, candidate, radius, budget):
+    """The nearest integer vector, a candidate inside the radius being known, as a `Nearest`. The radius is a square.
+
+    The search is inside radius + (2**-52 * max(radius, 1)) * 4n, so that the candidate itself is found at least.
+    Raises 2 to 9 for the table and the arguments, 10 to 13 for the candidate and its radius, and BudgetExhausted.
+    """
+    table = _Table(weights, mu, target)
+    candidate = _values.integers("candidate", candidate)
+    radius, budget, out = _values.double("radius", radius), _budget(budget), table.point()
+    nodes, _, _ = _call("nearest_seeded", (*table.slices(), out, candidate), radius, budget)
+    return Nearest(tuple(out), nodes)
+
+
+def nearest_ml(weights, mu, target, budget):
+    """The nearest integer vector of all, from the nearest-plane point as candidate, as a `Nearest`.
+
+    Raises 2 to 7 and 9 for the table and the arguments, 11 and 13 if a distance overflows, and BudgetExhausted.
+    """
+    table = _Table(weights, mu, target)
+    budget, out = _budget(budget), table.point()
+    nodes, _, _ = _call("nearest_ml", (*table.slices(), out), budget)
+    return Nearest(tuple(out), nodes)
+
+
+def list_points(weights, mu, target, radius, budget, places=256):
+    """Every integer vector that is admitted at the radius, by distance and then coordinates, as a `Listed`.
+
+    The radius and the distances are squares. `places` is how many points the list has room for, up to 4096. The call
+    needs 0.95 MB of stack, which Python's threads have if threading.stack_size is left alone.
+    Raises 2 to 9 for the table and the arguments, BudgetExhausted, and ListFull if there are more points than places.
+    """
+    table = _Table(weights, mu, target)
+    radius, budget = _values.double("radius", radius), _budget(budget)
+    places = _values.whole("places", places, 0, LARGEST_LIST)
+    distances, points = (ctypes.c_double * places)(), (ctypes.c_int64 * (places * table.n))()
+    nodes, count, _ = _call("list", (*table.slices(), distances, points), radius, budget)
+    n = table.n
+    return Listed(tuple(ListedPoint(distances[i], tuple(points[i * n:(i + 1) * n])) for i in range(count)), nodes)
+
+
+def triangular_distance(weights, mu, target, point):
+    """The computed distance of a point from the target, a square.
+
+    Raises 2 to 7 for the table and the arguments, and CandidateDistance if it overflows.
+    """
+    table = _Table(weights, mu, target)
+    _, _, distance = _call("distance", (*table.slices(), _values.integers("point", point)))
+    return distance
+
+
+def nearest_plane(weights, mu, coefficients):
+    """Babai's nearest plane to the coefficients t, as a `Plane`: the point z, near but not always nearest, and t - z.
+
+    Raises 2 to 7 for the table and the coefficients, which may be above 2**52 here.
+    """
+    table = _Table(weights, mu, coefficients, "coefficients")
+    out = table.point()
+    _call("nearest_plane", (*table.slices(), out))
+    return Plane(tuple(out), tuple(table.target))
+
+
+def round_coefficients(coefficients):
+    """`round_away` of each number, as a tuple. Raises NonFinite for an infinity or a NaN."""
+    found = _values.doubles("coefficients", coefficients)
+    out = (ctypes.c_int64 * len(found))()
+    _call("round", (found, out))
+    return tuple(out)
+
+
+def round_away(x):
+    """The nearest integer, of two the larger in magnitude; within -2**63 and 2**63-1, and 0 of a NaN."""
+    return _loaded.snowgimmer_round_away(_values.double("x", x))

@@ -1,0 +1,185 @@
+"""The numbered refusals as exceptions. Each carries its number, its name and its values."""
+
+
+class Refusal(Exception):
+    """A call that the library refused.
+
+    `number` is the refusal's number, `name` its name and `values` what it carries, by name; each value is also an
+    attribute. Each number has a class of its own below.
+    """
+
+    number = 0
+    #: the names of the values, in the order of the library's report
+    fields = ()
+    #: the sentence of the message, with the values by name
+    sentence = ""
+
+    def __init__(self, **values):
+        self.name = type(self).__name__
+        self.values = values
+        for field in self.fields:
+            setattr(self, field, values[field])
+        super().__init__(f"refused {self.number}, {self.name}: {self.text()}")
+
+    def text(self):
+        return self.sentence.format(**self.values)
+
+    def __reduce__(self):
+        return _again, (type(self), self.values)
+
+
+def _again(kind, values):
+    """The refusal, as pickle and copy make it again."""
+    return kind(**values)
+
+
+class TableSize(Refusal):
+    """2: n is above 23, or mu is not n·n long."""
+
+    number = 2
+    fields = ("weights",)
+
+    def text(self):
+        n = self.values["weights"]
+        if n > 23:
+            return f"the table has {n} weights, and at most 23 are taken"
+        return f"mu does not have the {n * n} entries that {n} weights need"
+
+
+class MuNonFinite(Refusal):
+    """3: an entry of mu that is read is not finite; its index in the n·n entries."""
+
+    number = 3
+    fields = ("index",)
+    sentence = "mu[{index}], counted row by row, is not finite"
+
+
+class MuRange(Refusal):
+    """4: an entry of mu that is read is above 2^52 in magnitude; its index in the n·n entries."""
+
+    number = 4
+    fields = ("index",)
+    sentence = "mu[{index}], counted row by row, is above 2^52 in magnitude"
+
+
+class WeightRange(Refusal):
+    """5: a weight is not finite or not above 0; its index."""
+
+    number = 5
+    fields = ("index",)
+    sentence = "weights[{index}] is not a finite number above 0"
+
+
+class LengthMismatch(Refusal):
+    """6: the target, or a point in the output's place, is not n long."""
+
+    number = 6
+    fields = ("expected", "found")
+    sentence = "{expected} numbers are expected, as many as there are weights, and {found} were given"
+
+
+class NonFinite(Refusal):
+    """7: a target or coefficient is not finite or, in a search, above 2^52 in magnitude; its index."""
+
+    number = 7
+    fields = ("index",)
+    sentence = "number {index} of the target or coefficients is not finite, or above 2^52 in magnitude"
+
+
+class InvalidRadius(Refusal):
+    """8: the radius is negative or not finite."""
+
+    number = 8
+    fields = ("radius",)
+    sentence = "the radius {radius} is negative or not finite"
+
+
+class BudgetRange(Refusal):
+    """9: the budget is above 2^60."""
+
+    number = 9
+    fields = ("budget",)
+    sentence = "the budget {budget} is above 2^60"
+
+
+class CandidateLength(Refusal):
+    """10: the candidate is not n long."""
+
+    number = 10
+    fields = ("expected", "found")
+    sentence = "the candidate has {found} coordinates, and {expected} are expected"
+
+
+class CandidateDistance(Refusal):
+    """11: the distance of the candidate, or of the point, overflows."""
+
+    number = 11
+    fields = ("total",)
+    sentence = "the distance of the candidate or point overflows to {total}"
+
+
+class CandidateOutside(Refusal):
+    """12: the candidate's distance is above the radius."""
+
+    number = 12
+    fields = ("radius",)
+    sentence = "the candidate's distance is above the radius {radius}"
+
+
+class WidenedRadius(Refusal):
+    """13: the widened radius is not finite."""
+
+    number = 13
+    fields = ("radius",)
+    sentence = "the widened radius is {radius}, and has to be finite"
+
+
+class ListSize(Refusal):
+    """14: a list was lent over 4,096 places."""
+
+    number = 14
+    fields = ("distances",)
+    sentence = "the list was lent {distances} places, and at most 4096 are taken, with n coordinates for each"
+
+
+class BudgetExhausted(Refusal):
+    """15: the budget ran out; the nodes tried and the radius that stood then."""
+
+    number = 15
+    fields = ("nodes", "radius")
+    sentence = "the budget ran out after {nodes} nodes, with the radius at {radius}: a larger budget may do"
+
+
+class OutsideRadius(Refusal):
+    """16: no vector is inside the radius."""
+
+    number = 16
+    fields = ("radius",)
+    sentence = "no vector is inside the radius {radius}: a larger one may do"
+
+
+class NoSeed(Refusal):
+    """17: a seeded or ml search found nothing inside the widened radius. It is proved that this never comes."""
+
+    number = 17
+    fields = ("radius",)
+    sentence = "no vector is inside the widened radius {radius}"
+
+
+class ListFull(Refusal):
+    """18: the list has more points than places."""
+
+    number = 18
+    fields = ("points",)
+    sentence = "the list has {points} points, more than there are places: give as many places, or a smaller radius"
+
+
+BY_NUMBER = {kind.number: kind for kind in Refusal.__subclasses__()}
+
+
+def refusal(number, first, second, real):
+    """The exception of a number, from the library's report: whole values come first, doubles last."""
+    kind = BY_NUMBER[number]
+    doubles = [field for field in kind.fields if field in ("radius", "total")]
+    whole = [field for field in kind.fields if field not in doubles]
+    return kind(**dict(zip(whole, (first, second))), **{field: real for field in doubles})

@@ -1,0 +1,409 @@
+"""Tests of the Python module: cases A to L, every refusal that a call can give, and what is refused before a call.
+
+    cd bindings/python && python3 -m unittest
+
+Arrays are numpy's where it is there, and else those of CPython's own buffer tests, where they are.
+"""
+
+import array
+import copy
+import ctypes
+import doctest
+import math
+import os
+import pickle
+import random
+import re
+import struct
+import subprocess
+import sys
+import tempfile
+import threading
+import unittest
+from decimal import Decimal
+from fractions import Fraction
+
+import snowgimmer
+from snowgimmer import (
+    BudgetExhausted, BudgetRange, CandidateDistance, CandidateLength, CandidateOutside, InvalidRadius, LengthMismatch,
+    ListFull, MuNonFinite, MuRange, NonFinite, OutsideRadius, TableSize, WeightRange, WidenedRadius, list_points,
+    nearest, nearest_ml, nearest_plane, nearest_seeded, round_away, round_coefficients, triangular_distance)
+
+HERE = os.path.dirname(os.path.abspath(__file__))
+
+# weights, mu and target
+B = [4.0], [0.0], [0.75]
+E = [1.0], [0.0], [0.5]
+G = [1.0, 1.0], [[0.0, 0.0], [0.5, 0.0]], [0.25, 0.5]
+H = [2.0**-51, 4.0], [[0.0, 0.0], [0.0, 0.0]], [0.5, 0.5]
+
+LARGEST = sys.float_info.max
+
+
+def load_tests(loader, tests, pattern):
+    tests.addTests(doctest.DocTestSuite(snowgimmer))
+    return tests
+
+
+class Test(unittest.TestCase):
+    def refused(self, kind, values, call, *arguments):
+        """The call raises this refusal with these values."""
+        with self.assertRaises(kind) as caught:
+            call(*arguments)
+        self.assertEqual(caught.exception.values, values)
+        self.assertEqual(caught.exception.name, kind.__name__)
+
+    def wrong(self, kind, text, call, *arguments):
+        """The call raises a plain error whose message has this text."""
+        with self.assertRaises(kind) as caught:
+            call(*arguments)
+        self.assertIs(type(caught.exception), kind)
+        self.assertIn(text, str(caught.exception))
+
+
+class Cases(Test):
+    """Cases A to L of docs/SPECIFICATION.md."""
+
+    def test_a_no_dimension(self):
+        self.assertEqual(nearest([], [], [], 0, 0), ((), 0))
+        self.assertEqual(list_points([], [], [], 0, 0), (((0.0, ()),), 0))
+
+    def test_b_to_d_one_weight(self):
+        self.assertEqual(nearest(*B, 0.25, 1), ((1,), 1))
+        self.refused(OutsideRadius, {"radius": 0.125}, nearest, *B, 0.125, 0)
+        self.refused(BudgetExhausted, {"nodes": 0, "radius": 0.25}, nearest, *B, 0.25, 0)
+
+    def test_e_and_f_a_half(self):
+        self.assertEqual(nearest(*E, 1, 2), ((0,), 2))
+        self.refused(BudgetExhausted, {"nodes": 1, "radius": 0.25}, nearest, *E, 1, 1)
+        self.refused(BudgetExhausted, {"nodes": 1, "radius": 1.0}, list_points, *E, 1, 1)
+
+    def test_g_two_weights(self):
+        found = nearest(*G, 2, 100)
+        self.assertEqual((found.point, found.nodes), ((0, 1), 5))
+        listed = list_points(*G, 2, 100)
+        self.assertEqual(listed.nodes, 7)
+        points = ((0.25, (0, 1)), (0.5, (0, 0)), (0.5, (1, 0)), (1.25, (-1, 1)), (1.25, (1, 1)))
+        self.assertEqual(listed.points, points)
+        self.assertEqual((listed.points[0].distance, listed.points[0].point), points[0])
+        self.assertEqual(nearest_ml(*G, 100), ((0, 1), 3))
+
+    def test_h_and_i_equal_distances(self):
+        self.refused(OutsideRadius, {"radius": 1.0}, nearest, *H, 1, 2)
+        for z in (0, 0), (0, 1), (1, 0), (1, 1):
+            self.assertEqual(triangular_distance(*H, z), 1.0)
+        radius = 1 + 2.0**-52
+        self.assertEqual(nearest(*H, radius, 4), ((0, 1), 4))
+        listed = list_points(*H, radius, 6)
+        self.assertEqual((len(listed.points), listed.nodes), (4, 6))
+
+    def test_j_rounding(self):
+        self.assertEqual([round_away(x) for x in (0.5, -0.5, -2.5, 2.0**63)], [1, -1, -3, 2**63 - 1])
+        self.assertEqual(round_coefficients((0.5, -0.5, -2.5, 2.0**63)), (1, -1, -3, 2**63 - 1))
+        self.assertEqual([round_away(x) for x in (-math.inf, math.nan)], [-2**63, 0])
+
+    def test_k_the_largest_target(self):
+        self.assertEqual(nearest([1], [0], [2**52], 0, 1), ((2**52,), 1))
+        self.refused(NonFinite, {"index": 0}, nearest, [1], [0], [2**52 + 1], 0, 1)
+
+    def test_l_a_candidate(self):
+        self.refused(CandidateOutside, {"radius": 2.0}, nearest_seeded, *E, [2], 2, 100)
+        self.assertEqual(nearest_seeded(*E, [2], 2.25, 100), ((0,), 4))
+        self.refused(BudgetRange, {"budget": 2**60 + 1}, nearest_seeded, *E, [2], 2.25, 2**60 + 1)
+
+
+def read_job(name):
+    """Weights, mu, target, radius and budget of an example's job file."""
+    with open(os.path.join(HERE, "../../examples", f"{name}.job"), "rb") as file:
+        data = file.read()
+    parts, at = [], 0
+    for kind in "ddddQ":
+        count = struct.unpack_from("<I", data, at)[0]
+        parts.append(struct.unpack_from(f"<{count}{kind}", data, at + 4))
+        at += 4 + 8 * count
+    weights, entries, target, (radius,), (budget,) = parts
+    n = len(weights)
+    mu = [[0.0] * n for _ in range(n)]
+    for j in range(n):
+        mu[j][:j] = entries[j * (j - 1) // 2:j * (j + 1) // 2]
+    return weights, mu, target, radius, budget
+
+
+class Examples(Test):
+    """The examples' jobs, against what the job program prints of them."""
+
+    def lines(self, job):
+        """The program's lines of nearest and list."""
+        try:
+            found = nearest(*job)
+            yield " ".join(map(str, ("nearest", found.nodes, *found.point)))
+            listed = list_points(*job)
+        except snowgimmer.Refusal as refusal:
+            yield f"nearest refused {refusal.number} search"
+            return
+        yield f"list {listed.nodes} {len(listed.points)}"
+        for each in listed.points:
+            yield " ".join(map(str, (struct.pack(">d", each.distance).hex().upper(), *each.point)))
+
+    def test_as_printed(self):
+        for name in "two-levels", "twelve-levels", "budget-runs-out":
+            with open(os.path.join(HERE, "../../examples", f"{name}.out"), encoding="ascii") as file:
+                printed = file.read().split("\n")
+            lines = list(self.lines(read_job(name)))
+            self.assertEqual(lines, printed[:len(lines)])
+            self.assertTrue(name == "budget-runs-out" or printed[len(lines)].startswith("ratio"))
+
+
+class Distances(Test):
+    def test_what_is_minimised(self):
+        """The formula of the head, in fractions, where no operation rounds; and a search over a box."""
+        draw = random.Random(3)
+        n = 3
+        weights = [draw.randint(1, 8) / 4 for _ in range(n)]
+        mu = [[draw.randint(-4, 4) / 8 for _ in range(n)] for _ in range(n)]
+        target = [draw.randint(-16, 16) / 8 for _ in range(n)]
+
+        def distance(z):
+            gap = [Fraction(target[i]) - z[i] for i in range(n)]
+            center = [gap[i] + sum(Fraction(mu[j][i]) * gap[j] for j in range(i + 1, n)) for i in range(n)]
+            return sum(Fraction(weights[i]) * center[i]**2 for i in range(n))
+
+        box = [(x, y, z) for x in range(-5, 6) for y in range(-5, 6) for z in range(-5, 6)]
+        for z in box[::37]:
+            self.assertEqual(triangular_distance(weights, mu, target, z), distance(z))
+        found = nearest_ml(weights, mu, target, 10000)
+        self.assertEqual(distance(found.point), min(map(distance, box)))
+
+    def test_plane(self):
+        plane = nearest_plane(*G)
+        self.assertEqual((plane.point, plane.residual), ((0, 1), (0.25, -0.5)))
+        self.assertEqual(G[2], [0.25, 0.5])
+
+
+class Refusals(Test):
+    def test_tables(self):
+        self.refused(TableSize, {"weights": 24}, nearest, [1] * 24, [0] * 576, [0] * 24, 1, 9)
+        self.refused(TableSize, {"weights": 2}, nearest, [1, 1], [0] * 3, [0, 0], 1, 9)
+        self.refused(MuNonFinite, {"index": 2}, nearest, [1, 1], [0, 0, math.nan, 0], [0, 0], 1, 9)
+        self.refused(MuRange, {"index": 2}, nearest, [1, 1], [[0, 0], [-1e16, 0]], [0, 0], 1, 9)
+        self.refused(WeightRange, {"index": 1}, nearest, [1, -0.0], [0] * 4, [0, 0], 1, 9)
+        self.assertEqual(nearest([1, 1], [math.nan, math.inf, 0, 1e300], [0, 0], 1, 9).point, (0, 0))
+
+    def test_calls(self):
+        self.refused(LengthMismatch, {"expected": 1, "found": 0}, nearest, [1], [0], [], 1, 9)
+        self.refused(LengthMismatch, {"expected": 1, "found": 2}, triangular_distance, *E, [0, 0])
+        self.refused(NonFinite, {"index": 0}, nearest, [1], [0], [math.inf], 1, 9)
+        self.refused(NonFinite, {"index": 1}, round_coefficients, [0.5, math.nan])
+        self.refused(InvalidRadius, {"radius": -1.0}, nearest, *E, -1, 9)
+        self.refused(BudgetRange, {"budget": 2**64 - 1}, nearest_ml, *E, 2**64 - 1)
+        self.refused(CandidateLength, {"expected": 1, "found": 2}, nearest_seeded, *E, [0, 0], 1, 9)
+        self.refused(CandidateDistance, {"total": math.inf}, nearest_seeded, [LARGEST], [0], [0.5], [2**40], 1, 9)
+        self.refused(WidenedRadius, {"radius": math.inf}, nearest_seeded, *E, [0], LARGEST, 9)
+        self.refused(ListFull, {"points": 5}, list_points, *G, 2, 100, 4)
+        self.refused(ListFull, {"points": 1}, list_points, [], [], [], 0, 0, 0)
+
+    def test_one_class_a_number(self):
+        kinds = snowgimmer.Refusal.__subclasses__()
+        self.assertEqual(sorted(kind.number for kind in kinds), list(range(2, 19)))
+        for kind in kinds:
+            self.assertIs(getattr(snowgimmer, kind.__name__), kind)
+            self.assertIn(kind.__name__, snowgimmer.__all__)
+
+    def test_names_of_the_header(self):
+        with open(os.path.join(HERE, "../../include/snowgimmer.h"), encoding="utf-8") as file:
+            header = file.read()
+        numbers = dict(re.findall(r"(SNOWGIMMER_[A-Z_]+) = ([0-9]+)", header))
+        names = dict(re.findall(r'case (SNOWGIMMER_[A-Z_]+): return "(\w+)"', header))
+        found = {int(numbers[key]): names[key] for key in numbers if key != "SNOWGIMMER_SUCCESS"}
+        self.assertEqual(found, {kind.number: kind.__name__ for kind in snowgimmer.Refusal.__subclasses__()})
+        self.assertIn(f'SNOWGIMMER_VERSION "{snowgimmer.__version__}"', header)
+
+    def test_messages(self):
+        with self.assertRaises(snowgimmer.Refusal) as caught:
+            nearest(*G, 2, 4)
+        refusal = caught.exception
+        self.assertEqual((refusal.number, refusal.nodes, refusal.radius), (15, 4, 0.25))
+        self.assertEqual(str(refusal), "refused 15, BudgetExhausted: the budget ran out after 4 nodes, with the radius "
+                                       "at 0.25: a larger budget may do")
+        self.assertIn("at most 23", str(TableSize(weights=24)))
+        self.assertIn("the 4 entries that 2 weights need", str(TableSize(weights=2)))
+        for again in copy.copy(refusal), pickle.loads(pickle.dumps(refusal)):
+            self.assertEqual((type(again), str(again), again.values), (BudgetExhausted, str(refusal), refusal.values))
+
+
+class Plain(Test):
+    """What ctypes would bend without a word."""
+
+    def test_integers(self):
+        self.wrong(ValueError, "candidate[0] is 9223372036854775808", nearest_seeded, *E, [2**63], 1, 9)
+        self.wrong(ValueError, "candidate[0]", nearest_seeded, *E, [-2**63 - 1], 1, 9)
+        self.wrong(TypeError, "candidate[0] is 0.5, of type float", nearest_seeded, *E, [0.5], 1, 9)
+        self.wrong(TypeError, "an integer is expected", nearest_seeded, *E, [2.0], 1, 9)
+        self.wrong(TypeError, "of type bool", triangular_distance, *E, [True])
+        self.wrong(TypeError, "of type str", triangular_distance, *E, ["1"])
+        self.assertEqual(triangular_distance([1], [0], [0.0], [-2**63]), 2.0**126)
+
+    def test_budgets_and_places(self):
+        self.wrong(ValueError, "budget is -1", nearest, *E, 1, -1)
+        self.wrong(ValueError, "budget is 18446744073709551616", nearest, *E, 1, 2**64)
+        for budget in 9.0, True, "9", None, [9]:
+            self.wrong(TypeError, "budget is", nearest, *E, 1, budget)
+        for places in -1, 4097, 10**30:
+            self.wrong(ValueError, f"places is {places}"[:20], list_points, *E, 1, 9, places)
+        self.wrong(TypeError, "places is", list_points, *E, 1, 9, 2.5)
+
+    def test_doubles(self):
+        for radius in "1", None, 1j, True, [1.0]:
+            self.wrong(TypeError, "radius is", nearest, *E, radius, 9)
+        self.wrong(ValueError, "target[0] is 9007199254740993", nearest, [1], [0], [2**53 + 1], 1, 9)
+        self.wrong(ValueError, "above the largest double", nearest, *E, 10**400, 9)
+        self.wrong(ValueError, "weights[0] is Decimal('0.1')", nearest, [Decimal("0.1")], [0], [0], 1, 9)
+        self.wrong(TypeError, "weights[0] is True", nearest, [True], [0], [0], 1, 9)
+        self.wrong(TypeError, "mu[0] is 'a'", nearest, [1], "a".split(), [0], 1, 9)
+        self.assertEqual(nearest([Decimal("0.5")], [0], [Fraction(1, 2)], 1, 9).point, (0,))
+
+    def test_an_integer_that_compares_as_a_double(self):
+        class Integer(int):
+            """Equal to the doubles near it, as numpy's are."""
+            def __eq__(self, other):
+                return float(self) == float(other)
+
+            def __ne__(self, other):
+                return float(self) != float(other)
+
+        self.assertEqual(Integer(2**53 + 1), 2.0**53)
+        self.wrong(ValueError, "target[0] is 9007199254740993", nearest, [1], [0], [Integer(2**53 + 1)], 1, 9)
+
+    def test_no_sequences(self):
+        for value in "12", b"12", {0: 1.0}, {1.0}, 1.0, None, iter([1.0]):
+            self.wrong(TypeError, "weights is of type", nearest, value, [0], [0], 1, 9)
+
+    def test_rows(self):
+        self.wrong(ValueError, "mu has 1 rows: 2 are expected", nearest, [1, 1], [[0, 0, 0.5, 0]], [0, 0], 1, 9)
+        self.wrong(ValueError, "mu has 4 rows: 2 are expected", nearest, [1, 1], [[0], [0], [0.5], [0]], [0, 0], 1, 9)
+        self.wrong(ValueError, "mu[1] has 1 entries", nearest, [1, 1], [[0, 0], [0.5]], [0, 0], 1, 9)
+        self.wrong(TypeError, "mu[1]", nearest, [1, 1], [[0, 0], 0.5], [0, 0], 1, 9)
+        self.wrong(TypeError, "mu[1]", nearest, [1, 1], [0, [0, 0.5]], [0, 0], 1, 9)
+
+    def test_sequences(self):
+        flat = [0.0, 0.0, 0.5, 0.0]
+        numbers = array.array("d", flat)
+        for mu in flat, tuple(flat), numbers, memoryview(numbers), (ctypes.c_double * 4)(*flat):
+            self.assertEqual(nearest(array.array("d", G[0]), mu, tuple(G[2]), 2, 100), ((0, 1), 5))
+        self.assertEqual(nearest_seeded(*E, array.array("q", [2]), 2.25, 100).point, (0,))
+        self.assertEqual(nearest(array.array("f", [1]), array.array("i", [0]), range(1), 2, 100).point, (0,))
+
+
+def numpy_or_stand_in():
+    """A maker of arrays of doubles of a shape, in an order; None if there is neither."""
+    try:
+        import numpy
+        return lambda flat, shape, order="C": numpy.array(flat, dtype="d").reshape(shape, order=order)
+    except ImportError:
+        pass
+    try:
+        import _testbuffer
+    except ImportError:
+        return None
+    flags = {"C": 0, "F": _testbuffer.ND_FORTRAN}
+    return lambda flat, shape, order="C": memoryview(
+        _testbuffer.ndarray(flat, shape=list(shape), format="d", flags=flags[order]))
+
+
+ARRAY = numpy_or_stand_in()
+
+
+@unittest.skipIf(ARRAY is None, "neither numpy nor CPython's _testbuffer is there")
+class Arrays(Test):
+    def test_taken(self):
+        weights, target = ARRAY([1.0, 1.0], (2,)), ARRAY([0.25, 0.5], (2,))
+        for mu in ARRAY([0.0, 0.0, 0.5, 0.0], (2, 2)), ARRAY([0.0, 0.0, 0.5, 0.0], (4,)):
+            self.assertEqual(nearest(weights, mu, target, 2, 100), ((0, 1), 5))
+        self.assertEqual(nearest(ARRAY([1.0], (1,)), ARRAY([0.0], (1, 1), "F"), [0.5], 1, 2), ((0,), 2))
+
+    def test_column_major(self):
+        mu = ARRAY([0.0, 0.0, 0.5, 0.0], (2, 2), "F")
+        self.wrong(ValueError, "column-major", nearest, [1, 1], mu, [0.25, 0.5], 2, 100)
+
+    def test_shapes(self):
+        for shape in (1, 4), (4, 1), (2, 2, 1):
+            mu = ARRAY([0.0, 0.0, 0.5, 0.0], shape)
+            self.wrong(ValueError, f"mu has the shape {shape}: (2, 2)", nearest, [1, 1], mu, [0.25, 0.5], 2, 100)
+        weights = ARRAY([1.0, 1.0], (2, 1))
+        self.wrong(ValueError, "weights has the shape (2, 1)", nearest, weights, [0] * 4, [0, 0], 2, 100)
+
+    def test_no_doubles(self):
+        with self.assertRaises(TypeError):
+            nearest_seeded(*E, ARRAY([2.0], (1,)), 2.25, 100)
+
+
+@unittest.skipUnless("numpy" in sys.modules, "numpy is not there")
+class Numpy(Test):
+    def test_types(self):
+        import numpy
+        table = numpy.ones(2, "f"), numpy.zeros((2, 2), ">f8"), numpy.zeros(2, "i")
+        self.assertEqual(nearest(*table, 1, 9).point, (0, 0))
+        self.assertEqual(nearest_seeded(*E, numpy.array([2]), numpy.float64(2.25), numpy.int64(100)).point, (0,))
+        self.wrong(TypeError, "of type bool", nearest, numpy.array([True]), [0], [0], 1, 9)
+        self.wrong(TypeError, "real number", nearest, [numpy.True_], [0], [0], 1, 9)
+        self.wrong(TypeError, "no dimension", nearest, numpy.array(1.0), [0], [0], 1, 9)
+        mu = numpy.array([[0.0, 0.0], [0.5, 0.0]])
+        self.wrong(ValueError, "column-major", nearest, [1, 1], mu.T, [0.25, 0.5], 2, 100)
+        self.assertEqual(nearest([1, 1], numpy.ascontiguousarray(mu), [0.25, 0.5], 2, 100).point, (0, 1))
+
+
+class Threads(Test):
+    def test_side_by_side(self):
+        found = []
+        threads = [threading.Thread(target=lambda: found.append(list_points(*G, 2, 100))) for _ in range(8)]
+        for each in threads:
+            each.start()
+        for each in threads:
+            each.join()
+        self.assertEqual(found, [list_points(*G, 2, 100)] * 8)
+
+
+class Finding(Test):
+    def run_with(self, library, folder=HERE):
+        """Python in a process of its own, with SNOWGIMMER_LIB as given."""
+        environment = {**os.environ, "PYTHONPATH": folder, "PYTHONDONTWRITEBYTECODE": "1"}
+        environment.pop("SNOWGIMMER_LIB", None)
+        if library is not None:
+            environment["SNOWGIMMER_LIB"] = library
+        code = "import snowgimmer\nprint(snowgimmer.nearest_ml([1], [0], [0.75], 9))"
+        return subprocess.run([sys.executable, "-c", code], env=environment, capture_output=True, text=True, cwd="/")
+
+    def test_the_variable(self):
+        with tempfile.TemporaryDirectory() as folder:
+            link = os.path.join(folder, "libsnowgimmer.so")
+            os.symlink(os.path.realpath(snowgimmer.library.find()), link)
+            self.assertIn("point=(1,)", self.run_with(folder).stdout)
+            self.assertIn("point=(1,)", self.run_with(link).stdout)
+
+    def test_beside_the_module(self):
+        with tempfile.TemporaryDirectory() as folder:
+            os.symlink(os.path.join(HERE, "snowgimmer"), os.path.join(folder, "snowgimmer"))
+            os.symlink(os.path.realpath(snowgimmer.library.find()), os.path.join(folder, "libsnowgimmer.so"))
+            self.assertIn("point=(1,)", self.run_with(None, folder).stdout)
+
+    def test_missing(self):
+        with tempfile.TemporaryDirectory() as folder:
+            error = self.run_with(folder).stderr.strip().split("\n")[-1]
+            self.assertIn("ImportError: SNOWGIMMER_LIB names", error)
+            wrong = os.path.join(folder, "libsnowgimmer.a")
+            with open(wrong, "wb") as file:
+                file.write(b"!<arch>\n")
+            error = self.run_with(wrong).stderr.strip().split("\n")[-1]
+            self.assertIn("can't be loaded", error)
+            self.assertIn("tools/install --build", error)
+
+    def test_another_library(self):
+        import _ctypes
+        file = getattr(_ctypes, "__file__", None)
+        if file is None:
+            self.skipTest("this Python has no library of its own in a file")
+        self.assertIn("is not this library", self.run_with(file).stderr)
+
+
+if __name__ == "__main__":
+    unittest.main()

@@ -1,0 +1,223 @@
+//! A table with its calls as methods, and what they give.
+
+use crate::{LARGEST_DIMENSION, Refusal};
+use core::fmt;
+use core::ops::Deref;
+
+/// A table: n weights and n·n entries mu, row by row. The library reads `mu[j*n+i]` where j > i and no other.
+///
+/// What a table must be (n at most 23, mu n·n long, weights above 0, entries up to 2^52 in magnitude) the library
+/// checks at every call.
+#[derive(Debug, Clone, Copy, PartialEq)]
+pub struct Table<'a> {
+    weights: &'a [f64],
+    mu: &'a [f64],
+}
+
+impl<'a> Table<'a> {
+    /// The table of weights and of entries mu, row by row.
+    ///
+    /// ```
+    /// use snowgimmer::{Refusal, Table};
+    ///
+    /// let table = Table::new(&[1.0, 1.0], &[0.0, 0.0, 0.5]); // an entry is missing
+    /// assert_eq!(table.nearest_ml(&[0.25, 0.5], 100), Err(Refusal::TableSize { weights: 2 }));
+    /// ```
+    #[must_use]
+    pub const fn new(weights: &'a [f64], mu: &'a [f64]) -> Self {
+        Self { weights, mu }
+    }
+
+    /// The table of N weights and of mu as N rows of N, which the compiler checks.
+    ///
+    /// ```
+    /// use snowgimmer::Table;
+    ///
+    /// let table = Table::from_rows(&[1.0, 1.0], &[[0.0, 0.0], [0.5, 0.0]]);
+    /// assert_eq!(table, Table::new(&[1.0, 1.0], &[0.0, 0.0, 0.5, 0.0]));
+    /// ```
+    #[must_use]
+    pub fn from_rows<const N: usize>(weights: &'a [f64; N], mu: &'a [[f64; N]; N]) -> Self {
+        Self { weights, mu: mu.as_flattened() }
+    }
+
+    /// n, the number of weights.
+    #[must_use]
+    pub const fn dimension(&self) -> usize {
+        self.weights.len()
+    }
+
+    /// The nearest integer vector inside the radius, a square.
+    ///
+    /// # Errors
+    ///
+    /// Those of [`nearest`](crate::nearest).
+    pub fn nearest(&self, target: &[f64], radius: f64, budget: u64) -> Result<Nearest, Refusal> {
+        self.search(|out| crate::nearest(self.weights, self.mu, target, out, radius, budget))
+    }
+
+    /// The nearest integer vector, a candidate inside the radius being known.
+    ///
+    /// ```
+    /// let table = snowgimmer::Table::new(&[1.0], &[0.0]);
+    /// let found = table.nearest_seeded(&[0.5], &[2], 2.25, 100)?;
+    /// assert_eq!((found.point[0], found.nodes), (0, 4));
+    /// # Ok::<(), snowgimmer::Refusal>(())
+    /// ```
+    ///
+    /// # Errors
+    ///
+    /// Those of [`nearest_seeded`](crate::nearest_seeded).
+    pub fn nearest_seeded(
+        &self,
+        target: &[f64],
+        candidate: &[i64],
+        radius: f64,
+        budget: u64,
+    ) -> Result<Nearest, Refusal> {
+        self.search(|out| crate::nearest_seeded(self.weights, self.mu, target, out, candidate, radius, budget))
+    }
+
+    /// The nearest integer vector of all, from the nearest-plane point as candidate.
+    ///
+    /// # Errors
+    ///
+    /// Those of [`nearest_ml`](crate::nearest_ml).
+    pub fn nearest_ml(&self, target: &[f64], budget: u64) -> Result<Nearest, Refusal> {
+        self.search(|out| crate::nearest_ml(self.weights, self.mu, target, out, budget))
+    }
+
+    /// Every integer vector that is admitted at the radius, by distance and then coordinates, in the places lent: one of
+    /// `distances`, at most 4,096, and n of `points` for each vector. The call needs about 0.95 MB of stack.
+    ///
+    /// ```
+    /// let table = snowgimmer::Table::from_rows(&[1.0, 1.0], &[[0.0, 0.0], [0.5, 0.0]]);
+    /// let (mut distances, mut points) = ([0.0; 8], [0; 16]);
+    /// let list = table.list(&[0.25, 0.5], &mut distances, &mut points, 0.5, 100)?;
+    /// assert!(list.iter().eq([(0.25, &[0, 1][..]), (0.5, &[0, 0]), (0.5, &[1, 0])]));
+    /// # Ok::<(), snowgimmer::Refusal>(())
+    /// ```
+    ///
+    /// # Errors
+    ///
+    /// Those of [`list`](crate::list).
+    pub fn list<'s>(
+        &self,
+        target: &[f64],
+        distances: &'s mut [f64],
+        points: &'s mut [i64],
+        radius: f64,
+        budget: u64,
+    ) -> Result<List<'s>, Refusal> {
+        let listed = crate::list(self.weights, self.mu, target, distances, points, radius, budget)?;
+        let dimension = self.dimension();
+        let points = &points[..listed.points * dimension];
+        Ok(List { nodes: listed.nodes, distances: &distances[..listed.points], points, dimension })
+    }
+
+    /// Babai's nearest plane: the point z, near but not always nearest. It leaves t - z in the coefficients, which hold
+    /// t.
+    ///
+    /// ```
+    /// let table = snowgimmer::Table::from_rows(&[1.0, 1.0], &[[0.0, 0.0], [0.5, 0.0]]);
+    /// let mut coefficients = [0.25, 0.5];
+    /// assert_eq!(table.nearest_plane(&mut coefficients)?, [0, 1]);
+    /// assert_eq!(coefficients, [0.25, -0.5]);
+    /// # Ok::<(), snowgimmer::Refusal>(())
+    /// ```
+    ///
+    /// # Errors
+    ///
+    /// Those of [`nearest_plane`](crate::nearest_plane).
+    pub fn nearest_plane(&self, coefficients: &mut [f64]) -> Result<Point, Refusal> {
+        let mut point = Point::zero(self.dimension());
+        crate::nearest_plane(self.weights, self.mu, coefficients, point.places())?;
+        Ok(point)
+    }
+
+    /// The computed distance of a point from the target, a square.
+    ///
+    /// # Errors
+    ///
+    /// Those of [`triangular_distance`](crate::triangular_distance).
+    pub fn triangular_distance(&self, target: &[f64], point: &[i64]) -> Result<f64, Refusal> {
+        crate::triangular_distance(self.weights, self.mu, target, point)
+    }
+
+    /// The point that a search writes, and its nodes.
+    fn search(&self, call: impl FnOnce(&mut [i64]) -> Result<u64, Refusal>) -> Result<Nearest, Refusal> {
+        let mut point = Point::zero(self.dimension());
+        let nodes = call(point.places())?;
+        Ok(Nearest { point, nodes })
+    }
+}
+
+/// What a nearest search gives.
+#[derive(Debug, Clone, Copy, PartialEq, Eq)]
+#[non_exhaustive]
+pub struct Nearest {
+    /// The nearest vector.
+    pub point: Point,
+    /// How many nodes the search tried.
+    pub nodes: u64,
+}
+
+/// A vector of up to 23 integers, coordinate 0 first: a slice by value.
+#[derive(Clone, Copy, PartialEq, Eq, Hash)]
+pub struct Point {
+    // zero from the dimension on
+    coordinates: [i64; LARGEST_DIMENSION],
+    dimension: usize,
+}
+
+impl Point {
+    /// A point for the library to write. With more weights than it can have coordinates the library refuses the table.
+    fn zero(dimension: usize) -> Self {
+        Self { coordinates: [0; LARGEST_DIMENSION], dimension: dimension.min(LARGEST_DIMENSION) }
+    }
+
+    fn places(&mut self) -> &mut [i64] {
+        &mut self.coordinates[..self.dimension]
+    }
+}
+
+impl Deref for Point {
+    type Target = [i64];
+
+    fn deref(&self) -> &[i64] {
+        &self.coordinates[..self.dimension]
+    }
+}
+
+impl fmt::Debug for Point {
+    fn fmt(&self, f: &mut fmt::Formatter<'_>) -> fmt::Result {
+        (**self).fmt(f)
+    }
+}
+
+impl<const N: usize> PartialEq<[i64; N]> for Point {
+    fn eq(&self, other: &[i64; N]) -> bool {
+        **self == other[..]
+    }
+}
+
+/// What [`Table::list`] gives: the vectors found, in the places that it was lent.
+#[derive(Debug, Clone, Copy, PartialEq)]
+#[non_exhaustive]
+pub struct List<'s> {
+    /// How many nodes the search tried.
+    pub nodes: u64,
+    /// The distances, squares, in rising order: one for each vector.
+    pub distances: &'s [f64],
+    /// The coordinates: n for each vector.
+    pub points: &'s [i64],
+    dimension: usize,
+}
+
+impl<'s> List<'s> {
+    /// Each vector after its distance.
+    pub fn iter(&self) -> impl ExactSizeIterator<Item = (f64, &'s [i64])> + use<'s> {
+        let List { points, dimension, .. } = *self;
+        self.distances.iter().enumerate().map(move |(i, &distance)| (distance, &points[i * dimension..][..dimension]))
+    }
+}
