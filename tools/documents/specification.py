@@ -1,0 +1,354 @@
+"""docs/SPECIFICATION.md read as a program, section by section: plain and slow, to be compared with the library."""
+
+import fractions
+import math
+import struct
+
+LARGEST, SMALLEST = 2**63 - 1, -(2**63)
+COORD_LIMIT = 2.0**52
+LARGEST_DIMENSION, LARGEST_BUDGET, LARGEST_LIST, JOB_PLACES = 23, 2**60, 4096, 256
+
+
+class Refusal(Exception):
+    """A number and the values that it carries."""
+
+    def __init__(self, number, *values):
+        super().__init__(number, values)
+        self.number, self.values = number, values
+
+
+# ---- Rounding
+
+def round_away(x):
+    if math.isnan(x):
+        return 0
+    if math.isinf(x):
+        return LARGEST if x > 0 else SMALLEST
+    whole = math.floor(abs(fractions.Fraction(x)) + fractions.Fraction(1, 2))
+    return min(whole, LARGEST) if x >= 0 else max(-whole, SMALLEST)
+
+
+# ---- Distance
+
+def center(mu, target, n, level, z):
+    """z has the coordinates above the level."""
+    c = target[level]
+    for j in range(level + 1, n):
+        c = c + (target[j] - float(z[j])) * mu[j * n + level]
+    return c
+
+
+def term(weight, c, z):
+    d = c - float(z)
+    return (weight * d) * d
+
+
+def distance(weights, mu, target, z):
+    partial = 0.0
+    for level in reversed(range(len(weights))):
+        partial = partial + term(weights[level], center(mu, target, len(weights), level, z), z[level])
+    return partial
+
+
+# ---- Zigzag
+
+class Children:
+    def __init__(self, c, remaining, weight):
+        self.center, self.remaining, self.weight = c, remaining, weight
+        self.nearest, self.step = round_away(c), 1
+        self.emitted_nearest = self.positive_done = self.negative_done = False
+        self.none = not self.passes(self.nearest)
+
+    def passes(self, z):
+        return term(self.weight, self.center, z) <= self.remaining
+
+    def one_step(self):
+        """A child or None."""
+        s = self.step
+        self.step += 1
+        upward = (s % 2 == 1) == (self.center >= float(self.nearest))
+        if self.positive_done if upward else self.negative_done:
+            return None
+        z = self.nearest + (s + 1) // 2 if upward else self.nearest - (s + 1) // 2
+        if SMALLEST <= z <= LARGEST and self.passes(z):
+            return z
+        self.positive_done |= upward
+        self.negative_done |= not upward
+        return None
+
+    def next(self):
+        if not self.emitted_nearest:
+            self.emitted_nearest = True
+            return self.nearest
+        while not (self.positive_done and self.negative_done):
+            child = self.one_step()
+            if child is not None:
+                return child
+        return None
+
+
+# ---- Nearest, List
+
+class Walk:
+    """`leaf` is called with the walk, a point and its distance."""
+
+    def __init__(self, weights, mu, target, radius, budget, leaf):
+        self.weights, self.mu, self.target, self.budget, self.leaf = weights, mu, target, budget, leaf
+        self.standing, self.nodes, self.best, self.found = radius, 0, None, []
+        self.point = [0] * len(weights)
+        self.enter(len(weights), 0.0)
+
+    def enter(self, levels, partial):
+        if levels == 0:
+            self.leaf(self, list(self.point), partial)
+            return
+        level = levels - 1
+        c = center(self.mu, self.target, len(self.weights), level, self.point)
+        children = Children(c, self.standing - partial, self.weights[level])
+        if children.none:
+            return
+        child = children.next()
+        while child is not None:
+            if self.nodes >= self.budget:
+                raise Refusal(15, self.nodes, self.standing)
+            self.nodes += 1
+            total = partial + term(self.weights[level], c, child)
+            if total <= self.standing:
+                self.point[level] = child
+                self.enter(level, total)
+            child = children.next()
+
+
+def consider(walk, point, d):
+    if walk.best is None or d < walk.standing or (d == walk.standing and point < walk.best):
+        walk.best, walk.standing = point, d
+
+
+def collect(walk, point, d):
+    walk.found.append((d, point))
+
+
+# ---- Seeds
+
+def plane(mu, coefficients):
+    n = len(coefficients)
+    left, z = list(coefficients), [0] * n
+    for i in reversed(range(n)):
+        total = left[i]
+        for j in range(i + 1, n):
+            total = total + left[j] * mu[j * n + i]
+        z[i] = round_away(total)
+        left[i] = left[i] - float(z[i])
+    return z, left
+
+
+def widened(n, radius):
+    return radius + (2.0**-52 * max(radius, 1.0)) * float(4 * n)
+
+
+# ---- The numbered refusals: each call's checks
+
+def first_fault(number, values, fault, indices):
+    for i in indices:
+        if fault(values[i]):
+            raise Refusal(number, i)
+
+
+def check_table(weights, mu):
+    n = len(weights)
+    if n > LARGEST_DIMENSION or len(mu) != n * n:
+        raise Refusal(2, n)
+    read = [j * n + i for j in range(n) for i in range(j)]
+    first_fault(3, mu, lambda x: not math.isfinite(x), read)
+    first_fault(4, mu, lambda x: abs(x) > COORD_LIMIT, read)
+    first_fault(5, weights, lambda w: not (math.isfinite(w) and w > 0), range(n))
+
+
+def check_length(expected, found):
+    if expected != found:
+        raise Refusal(6, expected, found)
+
+
+def check_target(target):
+    first_fault(7, target, lambda x: not math.isfinite(x) or abs(x) > COORD_LIMIT, range(len(target)))
+
+
+def check_radius(radius):
+    if not math.isfinite(radius) or radius < 0:
+        raise Refusal(8, radius)
+
+
+def check_budget(budget):
+    if budget > LARGEST_BUDGET:
+        raise Refusal(9, budget)
+
+
+def check_search(weights, mu, target, out):
+    check_table(weights, mu)
+    check_length(len(weights), len(target))
+    check_length(len(weights), len(out))
+    check_target(target)
+
+
+def check_distance(total):
+    if not math.isfinite(total):
+        raise Refusal(11, total)
+
+
+def check_widened(radius):
+    if not math.isfinite(radius):
+        raise Refusal(13, radius)
+
+
+# ---- the calls: each answers what it tells, and writes to the lists it is lent
+
+def ended(walk, none, out):
+    if walk.best is None:
+        raise none
+    out[:] = walk.best
+    return (walk.nodes,)
+
+
+def nearest(weights, mu, target, out, radius, budget):
+    check_search(weights, mu, target, out)
+    check_radius(radius)
+    check_budget(budget)
+    return ended(Walk(weights, mu, target, radius, budget, consider), Refusal(16, radius), out)
+
+
+def nearest_seeded(weights, mu, target, out, candidate, radius, budget):
+    check_search(weights, mu, target, out)
+    check_radius(radius)
+    check_budget(budget)
+    n = len(weights)
+    if len(candidate) != n:
+        raise Refusal(10, n, len(candidate))
+    total = distance(weights, mu, target, candidate)
+    check_distance(total)
+    if total > radius:
+        raise Refusal(12, radius)
+    wide = widened(n, radius)
+    check_widened(wide)
+    return ended(Walk(weights, mu, target, wide, budget, consider), Refusal(17, wide), out)
+
+
+def nearest_ml(weights, mu, target, out, budget):
+    check_search(weights, mu, target, out)
+    check_budget(budget)
+    total = distance(weights, mu, target, plane(mu, target)[0])
+    check_distance(total)
+    wide = widened(len(weights), total)
+    check_widened(wide)
+    return ended(Walk(weights, mu, target, wide, budget, consider), Refusal(17, wide), out)
+
+
+def list_points(weights, mu, target, distances, points, radius, budget):
+    check_table(weights, mu)
+    n = len(weights)
+    check_length(n, len(target))
+    check_target(target)
+    check_radius(radius)
+    check_budget(budget)
+    if len(distances) > LARGEST_LIST or len(points) != n * len(distances):
+        raise Refusal(14, len(distances))
+    walk = Walk(weights, mu, target, radius, budget, collect)
+    if len(walk.found) > len(distances):
+        raise Refusal(18, len(walk.found))
+    for k, (d, point) in enumerate(sorted(walk.found)):
+        distances[k] = d
+        points[k * n:k * n + n] = point
+    return walk.nodes, len(walk.found)
+
+
+def rounding(coefficients, out):
+    check_length(len(coefficients), len(out))
+    first_fault(7, coefficients, lambda x: not math.isfinite(x), range(len(coefficients)))
+    out[:] = [round_away(x) for x in coefficients]
+    return ()
+
+
+def nearest_plane(weights, mu, coefficients, out):
+    check_table(weights, mu)
+    n = len(weights)
+    if len(coefficients) != n or len(out) != n:
+        raise Refusal(6, n, len(coefficients))
+    first_fault(7, coefficients, lambda x: not math.isfinite(x), range(n))
+    out[:], coefficients[:] = plane(mu, coefficients)
+    return ()
+
+
+def point_distance(weights, mu, target, point):
+    check_search(weights, mu, target, point)
+    total = distance(weights, mu, target, point)
+    check_distance(total)
+    return (total,)
+
+
+# ---- Job program
+
+def read_section(data, at, right):
+    """The items' bits and the offset behind them."""
+    if len(data) < at + 4:
+        raise Refusal(1, len(data))
+    count = int.from_bytes(data[at:at + 4], "little")
+    if not right(count):
+        raise Refusal(1, at)
+    end = at + 4 + 8 * count
+    if len(data) < end:
+        raise Refusal(1, len(data))
+    return [int.from_bytes(data[k:k + 8], "little") for k in range(at + 4, end, 8)], end
+
+
+def as_double(bits):
+    return struct.unpack("<d", struct.pack("<Q", bits))[0]
+
+
+def read_job(data):
+    weights, at = read_section(data, 0, lambda count: count <= LARGEST_DIMENSION)
+    n = len(weights)
+    entries, at = read_section(data, at, lambda count: count == n * (n - 1) // 2)
+    target, at = read_section(data, at, lambda count: count == n)
+    radius, at = read_section(data, at, lambda count: count == 1)
+    budget, at = read_section(data, at, lambda count: count == 1)
+    if at < len(data):
+        raise Refusal(1, at)
+    mu = [0.0] * (n * n)
+    for j in range(n):
+        mu[j * n:j * n + j] = map(as_double, entries[j * (j - 1) // 2:j * (j + 1) // 2])
+    return list(map(as_double, weights)), mu, list(map(as_double, target)), as_double(radius[0]), budget[0]
+
+
+def refusal_line(word, number):
+    group = "layout" if number == 1 else "table" if number <= 5 else "call" if number <= 14 else "search"
+    return f"{word} refused {number} {group}\n"
+
+
+def nearest_line(weights, mu, target, radius, budget):
+    out = [0] * len(weights)
+    try:
+        nodes, = nearest(weights, mu, target, out, radius, budget)
+    except Refusal as refusal:
+        return refusal_line("nearest", refusal.number)
+    return " ".join(["nearest", str(nodes), *map(str, out)]) + "\n"
+
+
+def list_lines(weights, mu, target, radius, budget):
+    n = len(weights)
+    distances, points = [0.0] * JOB_PLACES, [0] * (JOB_PLACES * n)
+    try:
+        nodes, count = list_points(weights, mu, target, distances, points, radius, budget)
+    except Refusal as refusal:
+        return refusal_line("list", refusal.number) + "ratio none\n"
+    text = f"list {nodes} {count}\n"
+    for k in range(count):
+        text += " ".join([struct.pack(">d", distances[k]).hex().upper(), *map(str, points[k * n:k * n + n])]) + "\n"
+    holds = count == 1 or distances[1] >= 3.0 * distances[0]
+    return text + f"ratio {'none' if count == 0 else 'holds' if holds else 'fails'}\n"
+
+
+def job_text(data):
+    try:
+        job = read_job(data)
+    except Refusal as refusal:
+        return refusal_line("job", refusal.number)
+    return nearest_line(*job) + list_lines(*job)

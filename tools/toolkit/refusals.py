@@ -1,0 +1,63 @@
+"""The numbered refusals of docs/SPECIFICATION.md: of each its name, what it means and what to do about it."""
+
+import collections
+import math
+
+COORD_LIMIT = 2.0**52
+LARGEST_BUDGET = 2**60
+
+Refusal = collections.namedtuple("Refusal", "name meaning remedy")
+
+REFUSALS = {
+    1: Refusal("JobLayout", "the bytes are no job: a count is wrong, they end early or some are left over",
+               "make the job file again by `tools/jobfile to-job`; `tools/jobfile to-text` says where it is wrong"),
+    2: Refusal("TableSize", "n is above 23, or mu is not n·n long", "take at most 23 ambiguities, and the whole of mu"),
+    3: Refusal("MuNonFinite", "an entry of mu is infinite or not a number", "correct the table where it is made"),
+    4: Refusal("MuRange", "an entry of mu is above 2^52 in magnitude", "reduce (decorrelate) the table first"),
+    5: Refusal("WeightRange", "a weight is not finite or not above 0",
+               "correct the table where it is made: a weight is one over a conditional variance"),
+    6: Refusal("LengthMismatch", "the target or the output is not n long", "give one number for each weight"),
+    7: Refusal("NonFinite", "a target is not finite, or above 2^52 in magnitude",
+               "if it is too large, take a whole number off it and add that to the fixed integer"),
+    8: Refusal("InvalidRadius", "the radius is negative or not finite", "give a squared distance, 0 or more"),
+    9: Refusal("BudgetRange", "the budget is above 2^60", "give at most 1152921504606846976 nodes"),
+    10: Refusal("CandidateLength", "the candidate is not n long", "give one integer for each weight"),
+    11: Refusal("CandidateDistance", "the candidate's squared distance overflows",
+                "give a nearer candidate, or smaller weights"),
+    12: Refusal("CandidateOutside", "the candidate is farther away than the radius", "give a larger radius"),
+    13: Refusal("WidenedRadius", "the widened radius is not finite", "give a smaller radius, or smaller weights"),
+    14: Refusal("ListSize", "more than 4,096 places, or points that are not n times as many",
+                "lend slices of these lengths"),
+    15: Refusal("BudgetExhausted", "the search took all nodes of the budget and had not ended",
+                "give a larger budget, a smaller radius or a reduced table"),
+    16: Refusal("OutsideRadius", "no vector of integers is inside the radius", "give a larger radius"),
+    17: Refusal("NoSeed", "a seeded search found no vector", "none: it is proved that this never comes"),
+    18: Refusal("ListFull", "the radius has more vectors than the list's 256 places", "give a smaller radius"),
+}
+
+
+def _first(values, wrong, name):
+    return next((f"{name(i)} is {value!r}" for i, value in enumerate(values) if wrong(value)), None)
+
+
+def place(number, weights, mu, target, radius, budget):
+    """Which number of the table the refusal is about, or None. `mu` is the triangle as rows."""
+    places = [(j, i) for j, row in enumerate(mu) for i in range(len(row))]
+    flat = [mu[j][i] for j, i in places]
+
+    def entry(k):
+        return "mu[%d,%d]" % places[k]
+
+    if number == 3:
+        return _first(flat, lambda x: not math.isfinite(x), entry)
+    if number == 4:
+        return _first(flat, lambda x: abs(x) > COORD_LIMIT, entry)
+    if number == 5:
+        return _first(weights, lambda x: not 0 < x < math.inf, lambda i: f"weights[{i}]")
+    if number == 7:
+        return _first(target, lambda x: not abs(x) <= COORD_LIMIT, lambda i: f"target[{i}]")
+    if number in (8, 16, 18):
+        return f"the radius is {radius!r}"
+    if number in (9, 15):
+        return f"the budget is {budget}"
+    return None
