@@ -48,6 +48,8 @@
  *   16 OutsideRadius                                    radius    no vector is inside it
  *   17 NoSeed                                           radius    no vector is inside the widened one
  *   18 ListFull             points                                more points than places
+ *   19 ReferenceIndex                                             r is not below the point's length
+ *   20 ChangedRange         its index                             a coordinate becomes no int64_t
  *
  * The first number that fits is the answer. A refusal leaves every slice that it is lent as it was.
  *
@@ -64,9 +66,9 @@
 #include <stdint.h>
 
 #define SNOWGIMMER_VERSION_MAJOR 0
-#define SNOWGIMMER_VERSION_MINOR 1
+#define SNOWGIMMER_VERSION_MINOR 2
 #define SNOWGIMMER_VERSION_PATCH 0
-#define SNOWGIMMER_VERSION "0.1.0"
+#define SNOWGIMMER_VERSION "0.2.0"
 
 /* The largest n. */
 #define SNOWGIMMER_LARGEST_DIMENSION 23
@@ -100,7 +102,9 @@ enum snowgimmer_refusal {
     SNOWGIMMER_BUDGET_EXHAUSTED = 15,
     SNOWGIMMER_OUTSIDE_RADIUS = 16,
     SNOWGIMMER_NO_SEED = 17,
-    SNOWGIMMER_LIST_FULL = 18
+    SNOWGIMMER_LIST_FULL = 18,
+    SNOWGIMMER_REFERENCE_INDEX = 19,
+    SNOWGIMMER_CHANGED_RANGE = 20
 };
 
 /* The name of an answer as in the table above, "Success" of 0, and "Unknown" of a number that no function gives. */
@@ -124,6 +128,8 @@ static inline const char *snowgimmer_refusal_name(uint32_t number) {
     case SNOWGIMMER_OUTSIDE_RADIUS: return "OutsideRadius";
     case SNOWGIMMER_NO_SEED: return "NoSeed";
     case SNOWGIMMER_LIST_FULL: return "ListFull";
+    case SNOWGIMMER_REFERENCE_INDEX: return "ReferenceIndex";
+    case SNOWGIMMER_CHANGED_RANGE: return "ChangedRange";
     default: return "Unknown";
     }
 }
@@ -174,6 +180,14 @@ uint32_t snowgimmer_nearest_plane(const double *weights, size_t weights_len, con
 uint32_t snowgimmer_distance(const double *weights, size_t weights_len, const double *mu, size_t mu_len,
     const double *target, size_t target_len, const int64_t *point, size_t point_len, uint64_t *first,
     uint64_t *second, double *real);
+
+/* Changes the reference satellite, against which a point's cycles are counted, to that of coordinate r: coordinate r
+ * becomes -a(r), now the former reference satellite's, and each other a(i) becomes a(i) - a(r), exactly. The point may
+ * have any length. The same change once more brings the first point back. Lend only coordinates that are counted against
+ * the one satellite. The table and the target stay those of the former reference satellite: with them a changed point has
+ * a distance that means nothing. Refused: 19; 20, for coordinate r too. Stack: below 1 kB. Since 0.2.0. */
+uint32_t snowgimmer_change_reference(int64_t *point, size_t point_len, size_t r, uint64_t *first, uint64_t *second,
+    double *real);
 
 #ifdef __cplusplus
 }

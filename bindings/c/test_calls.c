@@ -9,6 +9,7 @@
 
 #define N 2
 #define MOST (SNOWGIMMER_LARGEST_LIST + 1)
+#define LONG 65
 
 static const double weights[N] = {1.0, 1.0};
 static const double mu[N * N] = {0.0, 0.0, 0.5, 0.0};
@@ -127,12 +128,46 @@ static void seeds(void) {
     expect_true("round_away", snowgimmer_round_away(-2.5) == -3);
 }
 
+/* change_reference of a copy of the point, which is then as given in after */
+static void change(const char *what, const int64_t *point, size_t len, size_t r, uint32_t expected, uint64_t index,
+    const int64_t *after) {
+    int64_t copy[LONG];
+    memcpy(copy, point, len * sizeof *copy);
+    first = second = 7;
+    real = 7.0;
+    uint32_t number = snowgimmer_change_reference(copy, len, r, &first, &second, &real);
+    expect(what, number, expected, index, 0, 0.0);
+    expect_true(what, memcmp(copy, after, len * sizeof *copy) == 0);
+}
+
+static void references(void) {
+    const int64_t point[N] = {1, 2}, changed[N] = {-1, 1}, zero[N] = {0, INT64_MIN}, one[N] = {1, INT64_MIN};
+    const int64_t largest[N] = {-1, INT64_MAX}, least[N] = {INT64_MIN, -INT64_MAX};
+    change("reference", point, N, 0, SNOWGIMMER_SUCCESS, 0, changed);
+    change("reference, twice", changed, N, 0, SNOWGIMMER_SUCCESS, 0, point);
+    change("to the least", largest, N, 1, SNOWGIMMER_SUCCESS, 0, least);
+    change("to the least, twice", least, N, 1, SNOWGIMMER_SUCCESS, 0, largest);
+    change("no coordinate", point, 0, 0, SNOWGIMMER_REFERENCE_INDEX, 0, point);
+    change("index 2 of 2", zero, N, 2, SNOWGIMMER_REFERENCE_INDEX, 0, zero);
+    change("largest index", point, N, SIZE_MAX, SNOWGIMMER_REFERENCE_INDEX, 0, point);
+    change("above the largest", zero, N, 1, SNOWGIMMER_CHANGED_RANGE, 0, zero);
+    change("below the least", one, N, 0, SNOWGIMMER_CHANGED_RANGE, 1, one);
+    change("coordinate r itself", zero + 1, 1, 0, SNOWGIMMER_CHANGED_RANGE, 0, zero + 1);
+    int64_t before[LONG], after[LONG];
+    for (int i = 0; i < LONG; i++) {
+        before[i] = i;
+        after[i] = i == 2 ? -2 : i - 2;
+    }
+    change("65 coordinates", before, LONG, 2, SNOWGIMMER_SUCCESS, 0, after);
+    change("65 coordinates, twice", after, LONG, 2, SNOWGIMMER_SUCCESS, 0, before);
+}
+
 static void names(void) {
     static const char *const all[] = {"Success", "Unknown", "TableSize", "MuNonFinite", "MuRange", "WeightRange",
         "LengthMismatch", "NonFinite", "InvalidRadius", "BudgetRange", "CandidateLength", "CandidateDistance",
         "CandidateOutside", "WidenedRadius", "ListSize", "BudgetExhausted", "OutsideRadius", "NoSeed", "ListFull",
-        "Unknown"};
-    for (uint32_t number = 0; number < 20; number++) expect_name(number, all[number]);
+        "ReferenceIndex", "ChangedRange", "Unknown"};
+    for (uint32_t number = 0; number < 22; number++) expect_name(number, all[number]);
     expect_name(UINT32_MAX, "Unknown");
 }
 
@@ -142,6 +177,7 @@ int main(void) {
     candidates();
     lists();
     seeds();
+    references();
     names();
     if (differences == 0) printf("all as expected\n");
     return differences != 0;

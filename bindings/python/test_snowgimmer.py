@@ -25,9 +25,10 @@ from fractions import Fraction
 
 import snowgimmer
 from snowgimmer import (
-    BudgetExhausted, BudgetRange, CandidateDistance, CandidateLength, CandidateOutside, InvalidRadius, LengthMismatch,
-    ListFull, MuNonFinite, MuRange, NonFinite, OutsideRadius, TableSize, WeightRange, WidenedRadius, list_points,
-    nearest, nearest_ml, nearest_plane, nearest_seeded, round_away, round_coefficients, triangular_distance)
+    BudgetExhausted, BudgetRange, CandidateDistance, CandidateLength, CandidateOutside, ChangedRange, InvalidRadius,
+    LengthMismatch, ListFull, MuNonFinite, MuRange, NonFinite, OutsideRadius, ReferenceIndex, TableSize, WeightRange,
+    WidenedRadius, change_reference, list_points, nearest, nearest_ml, nearest_plane, nearest_seeded, round_away,
+    round_coefficients, triangular_distance)
 
 HERE = os.path.dirname(os.path.abspath(__file__))
 
@@ -180,6 +181,33 @@ class Distances(Test):
         self.assertEqual(G[2], [0.25, 0.5])
 
 
+class References(Test):
+    def test_taken(self):
+        point = [1, 2]
+        self.assertEqual(change_reference(point, 0), (-1, 1))
+        self.assertEqual(point, [1, 2])
+        self.assertEqual(change_reference([0, -1, 2**63 - 1], 2), (1 - 2**63, -2**63, 1 - 2**63))
+        self.assertEqual(change_reference(nearest(*G, 2, 100).point, reference=1), (-1, -1))
+
+    def test_one_after_another(self):
+        point = tuple(i * i - 1000 for i in range(65))
+        for r, s in (0, 64), (64, 0), (2, 30):
+            once = change_reference(point, r)
+            self.assertEqual((once[r], once[s]), (-point[r], point[s] - point[r]))
+            self.assertEqual(change_reference(once, r), point)
+            straight = list(change_reference(point, s))
+            straight[r], straight[s] = straight[s], straight[r]
+            self.assertEqual(change_reference(once, s), tuple(straight))
+
+    def test_refused(self):
+        for point, r in ([], 0), ([0, -2**63], 2), ([1, 2], 2**64 - 1):
+            self.refused(ReferenceIndex, {}, change_reference, point, r)
+        for index, point, r in (0, [0, -2**63], 1), (1, [1, -2**63], 0), (0, [-2**63], 0), (2, [-1, 5, 2**63 - 1], 0):
+            before = list(point)
+            self.refused(ChangedRange, {"index": index}, change_reference, point, r)
+            self.assertEqual(point, before)
+
+
 class Refusals(Test):
     def test_tables(self):
         self.refused(TableSize, {"weights": 24}, nearest, [1] * 24, [0] * 576, [0] * 24, 1, 9)
@@ -204,7 +232,7 @@ class Refusals(Test):
 
     def test_one_class_a_number(self):
         kinds = snowgimmer.Refusal.__subclasses__()
-        self.assertEqual(sorted(kind.number for kind in kinds), list(range(2, 19)))
+        self.assertEqual(sorted(kind.number for kind in kinds), list(range(2, 21)))
         for kind in kinds:
             self.assertIs(getattr(snowgimmer, kind.__name__), kind)
             self.assertIn(kind.__name__, snowgimmer.__all__)
@@ -227,6 +255,10 @@ class Refusals(Test):
                                        "at 0.25: a larger budget may do")
         self.assertIn("at most 23", str(TableSize(weights=24)))
         self.assertIn("the 4 entries that 2 weights need", str(TableSize(weights=2)))
+        self.assertEqual(str(ReferenceIndex()), "refused 19, ReferenceIndex: the new reference satellite's index is "
+                                                "not below the point's length: give that of a coordinate")
+        self.assertEqual(str(ChangedRange(index=1)), "refused 20, ChangedRange: coordinate 1 against the new reference "
+                                                     "satellite is no 64-bit integer: another satellite may do")
         for again in copy.copy(refusal), pickle.loads(pickle.dumps(refusal)):
             self.assertEqual((type(again), str(again), again.values), (BudgetExhausted, str(refusal), refusal.values))
 
@@ -251,6 +283,15 @@ class Plain(Test):
         for places in -1, 4097, 10**30:
             self.wrong(ValueError, f"places is {places}"[:20], list_points, *E, 1, 9, places)
         self.wrong(TypeError, "places is", list_points, *E, 1, 9, 2.5)
+
+    def test_references(self):
+        for reference in -1, 2**64:
+            self.wrong(ValueError, f"reference is {reference}", change_reference, [1, 2], reference)
+        for reference in 0.0, True, "0", None, [0]:
+            self.wrong(TypeError, "reference is", change_reference, [1, 2], reference)
+        self.wrong(ValueError, "point[1] is 9223372036854775808", change_reference, [0, 2**63], 0)
+        self.wrong(TypeError, "point[0] is 1.0, of type float", change_reference, [1.0, 2], 0)
+        self.wrong(TypeError, "point is of type str", change_reference, "12", 0)
 
     def test_doubles(self):
         for radius in "1", None, 1j, True, [1.0]:
@@ -291,6 +332,10 @@ class Plain(Test):
         for mu in flat, tuple(flat), numbers, memoryview(numbers), (ctypes.c_double * 4)(*flat):
             self.assertEqual(nearest(array.array("d", G[0]), mu, tuple(G[2]), 2, 100), ((0, 1), 5))
         self.assertEqual(nearest_seeded(*E, array.array("q", [2]), 2.25, 100).point, (0,))
+        integers = array.array("q", [1, 2])
+        for point in (1, 2), range(1, 3), integers, memoryview(integers), (ctypes.c_int32 * 2)(1, 2):
+            self.assertEqual(change_reference(point, 0), (-1, 1))
+            self.assertEqual(list(point), [1, 2])
         self.assertEqual(nearest(array.array("f", [1]), array.array("i", [0]), range(1), 2, 100).point, (0,))
 
 
@@ -344,6 +389,7 @@ class Numpy(Test):
         table = numpy.ones(2, "f"), numpy.zeros((2, 2), ">f8"), numpy.zeros(2, "i")
         self.assertEqual(nearest(*table, 1, 9).point, (0, 0))
         self.assertEqual(nearest_seeded(*E, numpy.array([2]), numpy.float64(2.25), numpy.int64(100)).point, (0,))
+        self.assertEqual(change_reference(numpy.array([1, 2]), numpy.int64(0)), (-1, 1))
         self.wrong(TypeError, "of type bool", nearest, numpy.array([True]), [0], [0], 1, 9)
         self.wrong(TypeError, "real number", nearest, [numpy.True_], [0], [0], 1, 9)
         self.wrong(TypeError, "no dimension", nearest, numpy.array(1.0), [0], [0], 1, 9)

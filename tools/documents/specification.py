@@ -146,6 +146,13 @@ def widened(n, radius):
     return radius + (2.0**-52 * max(radius, 1.0)) * float(4 * n)
 
 
+# ---- Reference
+
+def changed(point, r):
+    """The cycles against the satellite of coordinate r."""
+    return [-point[r] if i == r else cycles - point[r] for i, cycles in enumerate(point)]
+
+
 # ---- The numbered refusals: each call's checks
 
 def first_fault(number, values, fault, indices):
@@ -181,6 +188,15 @@ def check_radius(radius):
 def check_budget(budget):
     if budget > LARGEST_BUDGET:
         raise Refusal(9, budget)
+
+
+def check_index(length, r):
+    if r >= length:
+        raise Refusal(19)
+
+
+def check_changed(point):
+    first_fault(20, point, lambda cycles: not SMALLEST <= cycles <= LARGEST, range(len(point)))
 
 
 def check_search(weights, mu, target, out):
@@ -282,6 +298,13 @@ def point_distance(weights, mu, target, point):
     total = distance(weights, mu, target, point)
     check_distance(total)
     return (total,)
+
+
+def change_reference(point, r):
+    check_index(len(point), r)
+    check_changed(changed(point, r))
+    point[:] = changed(point, r)
+    return ()
 
 
 # ---- Job program

@@ -33,6 +33,10 @@ REFUSALS = {
     16: Refusal("OutsideRadius", "no vector of integers is inside the radius", "give a larger radius"),
     17: Refusal("NoSeed", "a seeded search found no vector", "none: it is proved that this never comes"),
     18: Refusal("ListFull", "the radius has more vectors than the list's 256 places", "give a smaller radius"),
+    19: Refusal("ReferenceIndex", "the new reference satellite's index is not below the point's length",
+                "give the index of a coordinate"),
+    20: Refusal("ChangedRange", "a coordinate against the new reference satellite is no 64-bit integer",
+                "correct the point where it is made, or take another reference satellite"),
 }
 
 

@@ -34,6 +34,11 @@ refuses raises a `Refusal`, which has a class for each number.
     ... except BudgetExhausted as refusal:
     ...     print(refusal.number, refusal.name, refusal.values)
     15 BudgetExhausted {'nodes': 4, 'radius': 0.25}
+
+In positioning a point's integers are cycles against one reference satellite. When that one sets, take another:
+
+    >>> change_reference((0, 1), reference=1)
+    (-1, -1)
 """
 
 import ctypes
@@ -42,12 +47,12 @@ from typing import NamedTuple, Tuple
 from . import library as _library
 from . import values as _values
 from .refusals import (
-    BudgetExhausted, BudgetRange, CandidateDistance, CandidateLength, CandidateOutside, InvalidRadius, LengthMismatch,
-    ListFull, ListSize, MuNonFinite, MuRange, NoSeed, NonFinite, OutsideRadius, Refusal, TableSize, WeightRange,
-    WidenedRadius)
+    BudgetExhausted, BudgetRange, CandidateDistance, CandidateLength, CandidateOutside, ChangedRange, InvalidRadius,
+    LengthMismatch, ListFull, ListSize, MuNonFinite, MuRange, NoSeed, NonFinite, OutsideRadius, ReferenceIndex, Refusal,
+    TableSize, WeightRange, WidenedRadius)
 from .refusals import refusal as _refusal
 
-__version__ = "0.1.0"
+__version__ = "0.2.0"
 
 LARGEST_DIMENSION = 23
 LARGEST_LIST = 4096
@@ -55,11 +60,11 @@ LARGEST_BUDGET = 2**60
 
 __all__ = [
     "nearest", "nearest_seeded", "nearest_ml", "list_points", "triangular_distance", "nearest_plane",
-    "round_coefficients", "round_away", "Nearest", "Listed", "ListedPoint", "Plane",
+    "round_coefficients", "round_away", "change_reference", "Nearest", "Listed", "ListedPoint", "Plane",
     "LARGEST_DIMENSION", "LARGEST_LIST", "LARGEST_BUDGET", "Refusal", "TableSize", "MuNonFinite", "MuRange",
     "WeightRange", "LengthMismatch", "NonFinite", "InvalidRadius", "BudgetRange", "CandidateLength",
     "CandidateDistance", "CandidateOutside", "WidenedRadius", "ListSize", "BudgetExhausted", "OutsideRadius", "NoSeed",
-    "ListFull",
+    "ListFull", "ReferenceIndex", "ChangedRange",
 ]
 
 _loaded = _library.load()
@@ -208,3 +213,18 @@ def round_coefficients(coefficients):
 def round_away(x):
     """The nearest integer, of two the larger in magnitude; within -2**63 and 2**63-1, and 0 of a NaN."""
     return _loaded.snowgimmer_round_away(_values.double("x", x))
+
+
+def change_reference(point, reference):
+    """The point with the satellite of coordinate `reference` as its reference satellite, as a tuple.
+
+    Coordinate `reference` becomes -point[reference], now the former reference satellite's, and each other point[i]
+    becomes point[i] - point[reference], exactly. The point may have any length. The same change once more brings the
+    first point back. Give only coordinates that are counted against the one satellite. A table and a target stay those
+    of the former reference satellite: with them a changed point has a distance that means nothing.
+    Raises ReferenceIndex if `reference` is not below the point's length, and ChangedRange if a coordinate becomes no
+    signed 64-bit integer.
+    """
+    changed, reference = _values.integers("point", point), _values.whole("reference", reference, 0, 2**64 - 1)
+    _call("change_reference", (changed,), reference)
+    return tuple(changed)

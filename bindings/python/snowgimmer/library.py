@@ -10,7 +10,7 @@ DOUBLES = (ctypes.POINTER(ctypes.c_double), ctypes.c_size_t)
 INTEGERS = (ctypes.POINTER(ctypes.c_int64), ctypes.c_size_t)
 TABLE = DOUBLES + DOUBLES
 REPORT = (ctypes.POINTER(ctypes.c_uint64), ctypes.POINTER(ctypes.c_uint64), ctypes.POINTER(ctypes.c_double))
-RADIUS, BUDGET = (ctypes.c_double,), (ctypes.c_uint64,)
+RADIUS, BUDGET, INDEX = (ctypes.c_double,), (ctypes.c_uint64,), (ctypes.c_size_t,)
 
 ADVICE = (f"Let the variable SNOWGIMMER_LIB name the folder that holds {NAME}, or its file. In the repository "
           "`tools/install --build` makes it, and the module finds it there")
@@ -24,6 +24,7 @@ ARGUMENTS = {
     "round": DOUBLES + INTEGERS,
     "nearest_plane": TABLE + DOUBLES + INTEGERS,
     "distance": TABLE + DOUBLES + INTEGERS,
+    "change_reference": INTEGERS + INDEX,
 }
 
 

@@ -174,6 +174,21 @@ class ListFull(Refusal):
     sentence = "the list has {points} points, more than there are places: give as many places, or a smaller radius"
 
 
+class ReferenceIndex(Refusal):
+    """19: the index of the new reference satellite is not below the point's length."""
+
+    number = 19
+    sentence = "the new reference satellite's index is not below the point's length: give that of a coordinate"
+
+
+class ChangedRange(Refusal):
+    """20: a coordinate against the new reference satellite is no signed 64-bit integer; its index."""
+
+    number = 20
+    fields = ("index",)
+    sentence = "coordinate {index} against the new reference satellite is no 64-bit integer: another satellite may do"
+
+
 BY_NUMBER = {kind.number: kind for kind in Refusal.__subclasses__()}
 
 

@@ -108,4 +108,13 @@ unsafe extern "C" {
         second: *mut u64,
         real: *mut f64,
     ) -> u32;
+
+    pub(crate) fn snowgimmer_change_reference(
+        point: *mut i64,
+        point_len: usize,
+        r: usize,
+        first: *mut u64,
+        second: *mut u64,
+        real: *mut f64,
+    ) -> u32;
 }

@@ -31,9 +31,10 @@
 //! # Ok::<(), Refusal>(())
 //! ```
 //!
-//! [`Table`] gives points by value. The functions beside it have the names and arguments of the Rust original, and write
-//! to slices that they are lent. Every one is that of the proved library: for all inputs its answer is the one that the
-//! library's contract fixes, and a refusal leaves every slice that it was lent as it was.
+//! [`Table`] gives points by value. The functions beside it write to slices that they are lent, and have the names and
+//! arguments of the Rust original, which has no [`change_reference`]. Every one is that of the proved library: for all
+//! inputs its answer is the one that the library's contract fixes, and a refusal leaves every slice that it was lent as
+//! it was.
 //!
 //! The crate needs no standard library, allocates nothing and keeps nothing between calls. The variable SNOWGIMMER_LIB
 //! names the folder of `libsnowgimmer.a`, or the file, while a program is built.
@@ -360,4 +361,41 @@ pub fn triangular_distance(weights: &[f64], mu: &[f64], target: &[f64], point: &
         )
     })?;
     Ok(report.real)
+}
+
+/// Changes the reference satellite, against which a point's cycles are counted, to that of coordinate r: coordinate r
+/// becomes -a(r), now the former reference satellite's, and each other a(i) becomes a(i) - a(r), exactly. The point may
+/// have any length. The same change once more brings the first point back.
+///
+/// Lend only coordinates that are counted against the one satellite. The table and the target stay those of the former
+/// reference satellite: with them a changed point has a distance that means nothing.
+///
+/// ```
+/// let table = snowgimmer::Table::from_rows(&[1.0, 1.0], &[[0.0, 0.0], [0.5, 0.0]]);
+/// let mut point = table.nearest(&[0.25, 0.5], 2.0, 100)?.point;
+/// assert_eq!(point, [0, 1]);
+///
+/// // the reference satellite sets, and that of coordinate 1 is taken in its place
+/// snowgimmer::change_reference(&mut point, 1)?;
+/// assert_eq!(point, [-1, -1]);
+/// # Ok::<(), snowgimmer::Refusal>(())
+/// ```
+///
+/// # Errors
+///
+/// [`Refusal::ReferenceIndex`] if r is not below the point's length; [`Refusal::ChangedRange`] if a coordinate, r's own
+/// too, becomes no `i64`.
+pub fn change_reference(point: &mut [i64], r: usize) -> Result<(), Refusal> {
+    // SAFETY: a live slice with its own length (see the crate's head)
+    told(|report| unsafe {
+        ffi::snowgimmer_change_reference(
+            point.as_mut_ptr(),
+            point.len(),
+            r,
+            &mut report.first,
+            &mut report.second,
+            &mut report.real,
+        )
+    })?;
+    Ok(())
 }

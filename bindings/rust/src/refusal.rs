@@ -98,6 +98,13 @@ pub enum Refusal {
         /// How many points there are.
         points: usize,
     },
+    /// 19: the index of the new reference satellite is not below the point's length.
+    ReferenceIndex,
+    /// 20: a coordinate against the new reference satellite is no `i64`.
+    ChangedRange {
+        /// Its index.
+        index: usize,
+    },
 }
 
 impl Refusal {
@@ -122,6 +129,8 @@ impl Refusal {
             16 => Self::OutsideRadius { radius: real },
             17 => Self::NoSeed { radius: real },
             18 => Self::ListFull { points: a },
+            19 => Self::ReferenceIndex,
+            20 => Self::ChangedRange { index: a },
             _ => unreachable!("the library has no refusal {number}"),
         }
     }
@@ -147,6 +156,8 @@ impl Refusal {
             Self::OutsideRadius { .. } => 16,
             Self::NoSeed { .. } => 17,
             Self::ListFull { .. } => 18,
+            Self::ReferenceIndex => 19,
+            Self::ChangedRange { .. } => 20,
         }
     }
 }
@@ -190,6 +201,15 @@ impl fmt::Display for Refusal {
             Self::NoSeed { radius } => write!(f, "no vector is inside the widened radius {radius:?}"),
             Self::ListFull { points } => {
                 write!(f, "the list has {points} points: lend as many places, or lower the radius")
+            }
+            Self::ReferenceIndex => {
+                write!(
+                    f,
+                    "the new reference satellite's index is not below the point's length: give that of a coordinate"
+                )
+            }
+            Self::ChangedRange { index: i } => {
+                write!(f, "coordinate {i} against the new reference satellite is no i64: another satellite may do")
             }
         }
     }

@@ -2,7 +2,7 @@
 
 use crate::{LARGEST_DIMENSION, Refusal};
 use core::fmt;
-use core::ops::Deref;
+use core::ops::{Deref, DerefMut};
 
 /// A table: n weights and n·n entries mu, row by row. The library reads `mu[j*n+i]` where j > i and no other.
 ///
@@ -131,7 +131,7 @@ impl<'a> Table<'a> {
     /// Those of [`nearest_plane`](crate::nearest_plane).
     pub fn nearest_plane(&self, coefficients: &mut [f64]) -> Result<Point, Refusal> {
         let mut point = Point::zero(self.dimension());
-        crate::nearest_plane(self.weights, self.mu, coefficients, point.places())?;
+        crate::nearest_plane(self.weights, self.mu, coefficients, &mut point)?;
         Ok(point)
     }
 
@@ -147,7 +147,7 @@ impl<'a> Table<'a> {
     /// The point that a search writes, and its nodes.
     fn search(&self, call: impl FnOnce(&mut [i64]) -> Result<u64, Refusal>) -> Result<Nearest, Refusal> {
         let mut point = Point::zero(self.dimension());
-        let nodes = call(point.places())?;
+        let nodes = call(&mut point)?;
         Ok(Nearest { point, nodes })
     }
 }
@@ -175,10 +175,6 @@ impl Point {
     fn zero(dimension: usize) -> Self {
         Self { coordinates: [0; LARGEST_DIMENSION], dimension: dimension.min(LARGEST_DIMENSION) }
     }
-
-    fn places(&mut self) -> &mut [i64] {
-        &mut self.coordinates[..self.dimension]
-    }
 }
 
 impl Deref for Point {
@@ -186,6 +182,12 @@ impl Deref for Point {
 
     fn deref(&self) -> &[i64] {
         &self.coordinates[..self.dimension]
+    }
+}
+
+impl DerefMut for Point {
+    fn deref_mut(&mut self) -> &mut [i64] {
+        &mut self.coordinates[..self.dimension]
     }
 }
 

@@ -1,7 +1,9 @@
 //! Each number but 17, with its values, and that a refusal leaves every lent slice as it was: NaNs, which the proofs do
 //! not tell apart, by their bits.
 
-use snowgimmer::{Refusal, list, nearest, nearest_ml, nearest_plane, nearest_seeded, round, triangular_distance};
+use snowgimmer::{
+    Refusal, change_reference, list, nearest, nearest_ml, nearest_plane, nearest_seeded, round, triangular_distance,
+};
 
 /// NaNs with different signs and payloads, the second a signaling one.
 const NANS: [u64; 4] = [0x7FF8_0000_DEAD_BEEF, 0x7FF0_0000_0000_0001, 0xFFF8_0000_0000_0000, 0xFFFF_FFFF_FFFF_FFFF];
@@ -132,6 +134,40 @@ fn distances() {
     assert_eq!(far(HUGE, &[2]), Err(Refusal::CandidateDistance { total: f64::INFINITY }));
 }
 
+/// The point after a change of the reference satellite, or the refusal, which must leave the point as it was.
+fn changed(point: &[i64], r: usize) -> Result<Vec<i64>, Refusal> {
+    let mut after = point.to_vec();
+    let answer = change_reference(&mut after, r);
+    assert!(answer.is_ok() || after == point);
+    answer.map(|()| after)
+}
+
+#[test]
+fn references() {
+    assert_eq!(changed(&[1, 2], 0), Ok(vec![-1, 1]));
+    for (point, r) in [(&[][..], 0), (&[0, i64::MIN], 2), (&[1, 2], usize::MAX)] {
+        assert_eq!(changed(point, r), Err(Refusal::ReferenceIndex));
+    }
+    assert_eq!(changed(&[0, i64::MIN], 1), Err(Refusal::ChangedRange { index: 0 }));
+    assert_eq!(changed(&[1, i64::MIN], 0), Err(Refusal::ChangedRange { index: 1 }));
+    assert_eq!(changed(&[i64::MIN], 0), Err(Refusal::ChangedRange { index: 0 }));
+    assert_eq!(changed(&[-1, i64::MIN, i64::MAX], 0), Err(Refusal::ChangedRange { index: 2 }));
+    assert_eq!(changed(&[0, -1, i64::MAX], 2), Ok(vec![-i64::MAX, i64::MIN, -i64::MAX]));
+}
+
+#[test]
+fn one_reference_after_another() {
+    let point: Vec<i64> = (0..65).map(|i| i * i - 1000).collect();
+    for (r, s) in [(0, 64), (64, 0), (2, 30)] {
+        let once = changed(&point, r).unwrap();
+        assert_eq!((once[r], once[s]), (-point[r], point[s] - point[r]));
+        assert_eq!(changed(&once, r).as_ref(), Ok(&point));
+        let mut straight = changed(&point, s).unwrap();
+        straight.swap(r, s);
+        assert_eq!(changed(&once, s), Ok(straight));
+    }
+}
+
 #[test]
 fn told_in_words() {
     let told = |refusal: Refusal, words: &str| assert_eq!(refusal.to_string(), words);
@@ -148,6 +184,14 @@ fn told_in_words() {
     told(
         Refusal::ListFull { points: 5 },
         "refused 18: the list has 5 points: lend as many places, or lower the radius",
+    );
+    told(
+        Refusal::ReferenceIndex,
+        "refused 19: the new reference satellite's index is not below the point's length: give that of a coordinate",
+    );
+    told(
+        Refusal::ChangedRange { index: 1 },
+        "refused 20: coordinate 1 against the new reference satellite is no i64: another satellite may do",
     );
     let error: &dyn std::error::Error = &Refusal::NoSeed { radius: 1.0 };
     assert_eq!(error.to_string(), "refused 17: no vector is inside the widened radius 1.0");

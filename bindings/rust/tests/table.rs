@@ -1,6 +1,6 @@
 //! A table's methods against the functions of the same name.
 
-use snowgimmer::{LARGEST_BUDGET, LARGEST_DIMENSION, LARGEST_LIST, Refusal, Table};
+use snowgimmer::{LARGEST_BUDGET, LARGEST_DIMENSION, LARGEST_LIST, Refusal, Table, change_reference};
 
 const WEIGHTS: [f64; 2] = [1.0, 1.0];
 const ROWS: [[f64; 2]; 2] = [[0.0, 0.0], [0.5, 0.0]];
@@ -40,6 +40,10 @@ fn points() {
     assert_eq!(found.point, [0, 1]);
     assert!(found.point != [0, 1, 0] && found.point != [0] && found.point != [1, 1]);
     assert_eq!(table().triangular_distance(&TARGET, &found.point), Ok(0.25));
+    let mut point = found.point;
+    assert_eq!(change_reference(&mut point, 1), Ok(()));
+    assert_eq!(point, [-1, -1]);
+    assert_eq!(change_reference(&mut point, 2), Err(Refusal::ReferenceIndex));
 }
 
 #[test]

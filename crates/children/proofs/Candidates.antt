@@ -4,12 +4,13 @@ use mathlib.Core.Bool.{Bool, true, false, cond}
 use Prim.Native.Nat.{ℕ, zero, suc, _<_, _≤_, _+_, _-_, _^_}
 use native.Mathlib.Omega.{arith}
 use lib.Dec.{ltb}
-use lib.IntN.{ℤ, pos, negsuc, negℤ, _+ℤ_, _-ℤ_, subℕ}
+use lib.IntN.{ℤ, pos, negsuc, negℤ, _+ℤ_, _-ℤ_}
 use lib.Signed.{mag, leZ, ltZ}
 use mir.Syntax.{w64}
 use mir.Val.{SFits, toZ, ofZ}
 use mir.Facts.{toZ-pos}
 use mir.ValLaws.{toZ-ofZ}
+use Rattle.rounding.proofs.Interface.{mag-sub}
 use borrow.Author.Tests.{le-ltb, lt-ltb, ltb-false, ltb-true, leb-true}
 use Rattle.children.specs.declared.Moved.the-variants.{In, Out}
 use Rattle.children.specs.View.{movedOf}
@@ -29,21 +30,14 @@ pub fits-add-min : (m : ℕ) → m < 2 ^ 63 → SFits w64 (negsuc (2 ^ 63 - 1) +
 fits-add-min m h = rw (toZ-pos w64 h, low-add m h) (record { sfits = omega arith })
 
 -- ---- where the test fails, the result is an i64
-mag-sub : (a b h : ℕ) → a < h → b ≤ h → 0 < b → mag (subℕ a b) < h
-mag-sub a b h p q r = by (ltb a b) (omega arith) (omega arith)
-  where
-    by : (t : Bool) → b - suc a < h → a - b < h → mag (cond t (negsuc (b - suc a)) (pos (a - b))) < h
-    by true p q = p
-    by false p q = q
-
 up-in : (z : ℤ) (m : ℕ) → mag z < 2 ^ 63 → m < 2 ^ 63 → ltZ (pos (2 ^ 63 - 1 - m)) z ≡ false → mag (z +ℤ pos m) < 2 ^ 63
 up-in (pos a) m hz hm e = let h : a ≤ 2 ^ 63 - 1 - m = ltb-false (2 ^ 63 - 1 - m) a e in omega arith
-up-in (negsuc a) m hz hm e = mag-sub m (suc a) (2 ^ 63) hm (omega arith) (omega arith)
+up-in (negsuc a) m hz hm e = mag-sub m (suc a) (2 ^ 63) (omega arith) (omega arith) (omega arith)
 
 down-in : (z : ℤ) (m : ℕ) → mag z < 2 ^ 63 → m < 2 ^ 63 → ltZ z (negsuc (2 ^ 63 - suc m)) ≡ false → mag (z -ℤ pos m) < 2 ^ 63
 down-in (pos a) zero hz hm e = omega arith
 down-in (negsuc a) zero hz hm e = mag-sub 0 (suc a) (2 ^ 63) (omega arith) (omega arith) (omega arith)
-down-in (pos a) (suc k) hz hm e = mag-sub a (suc k) (2 ^ 63) hz (omega arith) (omega arith)
+down-in (pos a) (suc k) hz hm e = mag-sub a (suc k) (2 ^ 63) (omega arith) (omega arith) (omega arith)
 down-in (negsuc a) (suc k) hz hm e = let h : a ≤ 2 ^ 63 - suc (suc k) = ltb-false (2 ^ 63 - suc (suc k)) a e in omega arith
 
 -- ---- far from the ends, every result is an i64

@@ -3,8 +3,10 @@ use mathlib.Core.Path.{_≡_, refl, sym, subst}
 use mathlib.Core.Bool.{true, false, _&&_}
 use mathlib.Core.List.{List, [], _∷_}
 use lib.Dec.{T, leb, eqb, eqb→eq}
-use lib.ListN.{length}
-use lib.IntN.{ℤ}
+use Prim.Native.Nat.{ℕ, zero, suc, _<_}
+use native.Mathlib.Omega.{arith}
+use lib.ListN.{length, getD}
+use lib.IntN.{ℤ, pos}
 use lib.Ieee.{Float, binary64, sub, le}
 use lib.Ieee.Fits.{and-i, and-l, and-r, eq→eqb}
 use Rattle.rounding.specs.Integers.{isI64}
@@ -28,6 +30,11 @@ allI64-head z zs a = and-l (isI64 z) (allI64 zs) (subst T (allI64-cons z zs) a)
 
 pub allI64-tail : (z : ℤ) (zs : List ℤ) → T (allI64 (z ∷ zs)) → T (allI64 zs)
 allI64-tail z zs a = and-r (isI64 z) (allI64 zs) (subst T (allI64-cons z zs) a)
+
+pub allI64-at : (zs : List ℤ) (k : ℕ) → T (allI64 zs) → k < length zs → T (isI64 (getD zs k (pos 0)))
+allI64-at [] k a below = absurd (omega arith)
+allI64-at (z ∷ zs) zero a below = allI64-head z zs a
+allI64-at (z ∷ zs) (suc k) a below = allI64-at zs k (allI64-tail z zs a) (omega arith)
 
 module _ (t : Table) where
   pub vector-is : (zs : List ℤ) → isVector t zs ≡ (eqb (length zs) (dimension t) && allI64 zs)

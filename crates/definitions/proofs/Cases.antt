@@ -1,4 +1,4 @@
--- The bench cases A to L of docs/SPECIFICATION.md, proved together by one evaluation of the definitions. Case I's list is taken with a budget of 6 (docs/DECISIONS.md).
+-- The bench cases of docs/SPECIFICATION.md, A to L and those of `change_reference`, proved together by one evaluation of the definitions. Case I's list is taken with a budget of 6 (docs/DECISIONS.md).
 -- Assumes nothing.
 use mathlib.Core.Path.{_≡_, refl}
 use Prim.Native.Nat.{ℕ, zero, suc, _+_, _-_, _/_, _%_, _^_}
@@ -12,8 +12,10 @@ use Rattle.definitions.specs.Table.{Table, plusZero, one}
 use Rattle.definitions.specs.Distance.{partial}
 use Rattle.definitions.specs.Admitted.{admitted}
 use Rattle.definitions.specs.Listing.{ListPoint}
-use Rattle.definitions.specs.Refusals.{outsideRadius, budgetExhausted, nonFinite, candidateOutside, budgetRange}
+use Rattle.definitions.specs.Refusals.{outsideRadius, budgetExhausted, nonFinite, candidateOutside, budgetRange, referenceIndex, changedRange}
+use Rattle.definitions.specs.Checks.{Verdict, pass, refuse}
 use Rattle.definitions.specs.Calls.{Answer, found, refused, NearestPoint, ListAnswer, nearest, nearestSeeded, nearestMl, list}
+use Rattle.definitions.specs.Reference.{changeReference, changeOutput}
 use Rattle.definitions.specs.JobText.{text, jobOutput}
 
 -- ---- the cases' numbers
@@ -161,6 +163,31 @@ roundCases = map roundAway (half ∷ fin true 1 (negsuc 0) ∷ fin true 5 (negsu
 abbrev roundAnswers : List ℤ
 roundAnswers = pos 1 ∷ negsuc 0 ∷ negsuc 2 ∷ pos (2 ^ 63 - 1) ∷ []
 
+-- ---- changes of the reference satellite, each with the point at exit
+abbrev lowest : ℤ
+lowest = negsuc (2 ^ 63 - 1)
+
+abbrev changeTo : ℕ → List ℤ → Verdict × List ℤ
+changeTo r a = (changeReference a r, changeOutput (changeReference a r) a r)
+
+abbrev referenceCases : List (Verdict × List ℤ)
+referenceCases =
+    changeTo 0 (pos 1 ∷ pos 2 ∷ [])
+    ∷ changeTo 1 (pos 0 ∷ lowest ∷ [])
+    ∷ changeTo 0 (pos 1 ∷ lowest ∷ [])
+    ∷ changeTo 0 []
+    ∷ changeTo 2 (pos 0 ∷ lowest ∷ [])
+    ∷ []
+
+abbrev referenceAnswers : List (Verdict × List ℤ)
+referenceAnswers =
+    (pass, negsuc 0 ∷ pos 1 ∷ [])
+    ∷ (refuse (changedRange 0), pos 0 ∷ lowest ∷ [])
+    ∷ (refuse (changedRange 1), pos 1 ∷ lowest ∷ [])
+    ∷ (refuse referenceIndex, [])
+    ∷ (refuse referenceIndex, pos 0 ∷ lowest ∷ [])
+    ∷ []
+
 -- ---- G as a job: radius 2 and budget 100
 unfoldable pub bytesOf : ℕ → ℕ → List ℕ
 bytesOf zero n = []
@@ -190,10 +217,11 @@ pub record Cases : Type 0 where
   pub four-at-one : map (partial tableH targetH) fourVectors ≡ one ∷ one ∷ one ∷ one ∷ []
   pub none-admitted : map (admitted tableH targetH one) fourVectors ≡ false ∷ false ∷ false ∷ false ∷ []
   pub all-admitted : map (admitted tableH targetH aboveOne) fourVectors ≡ true ∷ true ∷ true ∷ true ∷ []
+  pub reference-cases : referenceCases ≡ referenceAnswers
   pub printed : jobOutput jobG ≡ printedG
 
 pub cases : Cases
-unfolding nearest list nearestSeeded nearestMl roundAway partial admitted jobOutput text toBits bytesOf joined
+unfolding nearest list nearestSeeded nearestMl roundAway changeReference changeOutput partial admitted jobOutput text toBits bytesOf joined
 cases = record {
   nearest-cases = refl;
   list-cases = refl;
@@ -201,5 +229,6 @@ cases = record {
   four-at-one = refl;
   none-admitted = refl;
   all-admitted = refl;
+  reference-cases = refl;
   printed = refl;
 }

@@ -13,6 +13,7 @@ pub mod Verdicts
 pub mod Tables
 pub mod Passed
 pub mod Answers
+pub mod References
 pub mod Decimal
 pub mod Triangles
 pub mod JobSections

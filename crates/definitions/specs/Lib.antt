@@ -13,6 +13,7 @@ pub mod Seeds
 pub mod Refusals
 pub mod Checks
 pub mod Calls
+pub mod Reference
 pub mod JobLayout
 pub mod JobEncoding
 pub mod JobText

@@ -83,3 +83,11 @@ noSeed radius = record { number = 17; values = real radius ∷ [] }
 -- 18 (the number of points)
 abbrev pub listFull : ℕ → Refusal
 listFull points = record { number = 18; values = whole points ∷ [] }
+
+-- 19 (nothing)
+abbrev pub referenceIndex : Refusal
+referenceIndex = record { number = 19; values = [] }
+
+-- 20 (the first index)
+abbrev pub changedRange : ℕ → Refusal
+changedRange index = record { number = 20; values = whole index ∷ [] }

@@ -40,6 +40,10 @@ pub enum Refusal {
     NoSeed(f64),
     // 18: more points than places (points).
     ListFull(usize),
+    // 19: the index of the new reference satellite is not below the point's length.
+    ReferenceIndex,
+    // 20: a coordinate against the new reference satellite is no i64 (its index).
+    ChangedRange(usize),
 }
 
 // What a check says.
@@ -57,6 +61,20 @@ pub struct Carried {
     pub second: u64,
     pub has_real: bool,
     pub real: f64,
+}
+
+// Nothing beside the number.
+fn nothing(number: u32) -> Carried
+    ensures { λ r. ⌜ r ≡ carrying number 0 0 0 false plusZero ⌝ }
+{
+    Carried {
+        number,
+        wholes: 0,
+        first: 0,
+        second: 0,
+        has_real: false,
+        real: 0.0,
+    }
 }
 
 // One whole number.
@@ -137,5 +155,7 @@ pub fn numbers(e: Refusal) -> Carried
         Refusal::OutsideRadius(x) => double(16, x),
         Refusal::NoSeed(x) => double(17, x),
         Refusal::ListFull(k) => whole(18, k as u64),
+        Refusal::ReferenceIndex => nothing(19),
+        Refusal::ChangedRange(i) => whole(20, i as u64),
     }
 }

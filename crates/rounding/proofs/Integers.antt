@@ -1,11 +1,13 @@
 -- The order of the integers by its tests `leZ` and `ltZ`: transitivity, neighbours, and which integers are signed 64-bit ones. Assumes nothing.
 use mathlib.Core.Path.{_≡_, sym, ap}
+use mathlib.Core.Bool.{Bool, true, false, cond}
 use mathlib.Core.Logic.{_⊎_, inl, inr}
-use Prim.Native.Nat.{zero, suc, _^_, zero-le}
+use Prim.Native.Nat.{ℕ, zero, suc, _-_, _^_, _<_, _≤_, zero-le}
 use native.Mathlib.Nat.{le-trans, le-of-suc-le-suc, lt-of-lt-of-le, lt-of-le-of-lt, eq-or-lt-of-le, not-suc-le-zero, le-of-lt, le-suc, le-refl}
-use lib.IntN.{ℤ, pos, negsuc, sucℤ, predℤ}
-use lib.Signed.{leZ, ltZ}
-use lib.Dec.{T, leb→le, le→leb, ltb→lt, lt→ltb}
+use native.Mathlib.Omega.{arith}
+use lib.IntN.{ℤ, pos, negsuc, sucℤ, predℤ, subℕ}
+use lib.Signed.{mag, leZ, ltZ}
+use lib.Dec.{T, ltb, leb→le, le→leb, ltb→lt, lt→ltb}
 use Rattle.rounding.specs.Integers.{isI64}
 use Rattle.rounding.proofs.Scaled.{split}
 
@@ -98,3 +100,11 @@ isI64-between a (pos b) (pos c) p q h k = lt→ltb b (2 ^ 63) (lt-of-le-of-lt (l
 isI64-between a (pos b) (negsuc c) p q h k = absurd k
 isI64-between (pos a) (negsuc b) c p q h k = absurd h
 isI64-between (negsuc a) (negsuc b) c p q h k = lt→ltb b (2 ^ 63) (lt-of-le-of-lt (leb→le b a h) (ltb→lt a (2 ^ 63) p))
+
+-- a difference of two numbers up to h, the second not 0
+pub mag-sub : (a b h : ℕ) → a ≤ h → b ≤ h → 0 < b → mag (subℕ a b) < h
+mag-sub a b h p q r = by (ltb a b) (omega arith) (omega arith)
+  where
+    by : (t : Bool) → b - suc a < h → a - b < h → mag (cond t (negsuc (b - suc a)) (pos (a - b))) < h
+    by true p q = p
+    by false p q = q

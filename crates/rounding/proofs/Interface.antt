@@ -13,7 +13,7 @@ pub use Rattle.rounding.proofs.Value.{float-le-refl, float-le-trans, fl
 pub use Rattle.rounding.proofs.Equality.{nonneg-same}
 pub use Rattle.rounding.proofs.Scaled.{split}
 -- the order of integers, `round_away`, and minus of an unsigned number
-pub use Rattle.rounding.proofs.Integers.{leZ-refl, leZ-cases, leZ-total, leZ-trans, leZ-ltZ-trans, ltZ-leZ-trans, leZ-suc, leZ-pred, isI64-between}
+pub use Rattle.rounding.proofs.Integers.{leZ-refl, leZ-cases, leZ-total, leZ-trans, leZ-ltZ-trans, ltZ-leZ-trans, leZ-suc, leZ-pred, isI64-between, mag-sub}
 pub use Rattle.rounding.proofs.RoundAway.{roundAway-isI64}
 pub use Rattle.rounding.proofs.Saturation.{negated-fits, negated-is}
 -- sums, differences, the term, the widened radius

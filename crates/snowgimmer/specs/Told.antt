@@ -7,7 +7,9 @@ use lib.IntN.{ℤ}
 use lib.Ieee.{Float}
 use Rattle.definitions.specs.Table.{Table}
 use Rattle.definitions.specs.Calls as C
+use Rattle.definitions.specs.Reference.{changeReference, changeOutput}
 use Rattle.theorems.specs.Promises.{NearestPromises, SeededPromises, MlPromises, ListPromises, RoundPromises, PlanePromises}
+use Rattle.theorems.specs.Reference.{ReferencePromises}
 use Rattle.listing.specs.View.{countsOf}
 use Rattle.snowgimmer.specs.declared.report.Report.{Report}
 use Rattle.snowgimmer.specs.Reports.{ofNearest, ofCounts, ofVerdict}
@@ -43,3 +45,8 @@ pub record PlaneTold (t : Table) (coefficients : List Float) (out : List ℤ) (r
   pub writes : out′ ≡ C.planeOutput (C.plane t coefficients out) t coefficients out
   pub leaves : coefficients′ ≡ C.planeCoefficients (C.plane t coefficients out) t coefficients
   pub promises : PlanePromises t coefficients out (C.plane t coefficients out) coefficients′ out′
+
+pub record ChangeTold (a : List ℤ) (index : ℕ) (r : Report) (a′ : List ℤ) : Type 0 where
+  pub tells : r ≡ ofVerdict (changeReference a index)
+  pub writes : a′ ≡ changeOutput (changeReference a index) a index
+  pub promises : ReferencePromises a index (changeReference a index) a′

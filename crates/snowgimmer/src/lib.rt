@@ -5,7 +5,7 @@ ghost use Rattle.rounding.specs.Integers.{roundAway};
 ghost use Rattle.definitions.specs.Lent.{atEntry, atExit, tableAt};
 ghost use Rattle.definitions.specs.Calls as C;
 ghost use Rattle.snowgimmer.specs.Reports.{toldAt, ofDistance};
-ghost use Rattle.snowgimmer.specs.Told.{NearestTold, SeededTold, MlTold, ListTold, RoundTold, PlaneTold};
+ghost use Rattle.snowgimmer.specs.Told.{NearestTold, SeededTold, MlTold, ListTold, RoundTold, PlaneTold, ChangeTold};
 ghost use Rattle.snowgimmer.specs.Distance.{pointDistance};
 
 mod integers;
@@ -16,6 +16,7 @@ use babai::round;
 use enumerate::nearest;
 use integers::read_integers;
 use listing::list;
+use reference::change_reference;
 use report::distance_report;
 use report::list_report;
 use report::nearest_report;
@@ -178,4 +179,23 @@ pub extern "C" fn snowgimmer_distance(
         second,
         real,
     )
+}
+
+// The reference satellite of a point becomes that of coordinate r: coordinate r becomes -a(r), each other a(i) becomes
+// a(i) - a(r). The point is read and written, and may have any length.
+//
+// Refused: 19 and 20.
+#[no_mangle]
+pub extern "C" fn snowgimmer_change_reference(
+    point: &mut [i64],
+    r: usize,
+    first: &mut u64,
+    second: &mut u64,
+    real: &mut f64,
+) -> u32
+    ensures { λ v. ⌜ ChangeTold (atEntry point) r (toldAt v first second real) (atExit point) ⌝ }
+{
+    read_integers(point);
+    let answer = change_reference(point, r);
+    stored(verdict_report(answer), first, second, real)
 }

@@ -91,7 +91,7 @@ module _ (n : ℕ) (fault : ℕ → Bool) where
       (at-first (read-increasing size size (omega arith)))
 
   -- of all that are counted
-  counted-first : (size : ℕ) → AtFirst (refuseAtFirst fault (carrying n) (countFrom 0 size)) n (λ k. k < size) fault
+  pub counted-first : (size : ℕ) → AtFirst (refuseAtFirst fault (carrying n) (countFrom 0 size)) n (λ k. k < size) fault
   counted-first size =
       among (λ k m. omega (arith, counted 0 size k m .1)) (λ k less. counts 0 size k (omega arith) (omega arith))
       (at-first (counted-increasing 0 size))

@@ -40,6 +40,7 @@ pub mod RefusedCalls
 pub mod SearchCalls
 pub mod ListCall
 pub mod Promises
+pub mod References
 -- ---- entries that are not read
 pub mod SameDistances
 pub mod SameWalks

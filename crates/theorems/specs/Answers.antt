@@ -61,7 +61,7 @@ pub record Demand1 {A : Type 0} (checks : List Verdict) (j k : ℕ) (answer : An
   pub answers : NoneFits checks ↔ (((a : A) × (answer ≡ found a)) ⊎ ((e : Refusal) × (answer ≡ refused e) × Under j k e))
   pub unchanged : (e : Refusal) → answer ≡ refused e → Unchanged
 
--- the same of `round` and `nearest_plane`, which have no refusals of their own
+-- the same of calls without a walk, which are refused by their checks alone
 pub record VerdictDemand1 (checks : List Verdict) (verdict : Verdict) (Unchanged : Type 0) : Type 0 where
   pub refuses : (e : Refusal) → FirstFits checks e ↔ (verdict ≡ refuse e)
   pub passes : NoneFits checks ↔ (verdict ≡ pass)

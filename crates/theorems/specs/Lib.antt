@@ -8,5 +8,6 @@ pub mod Ordered
 pub mod Refusals
 pub mod Answers
 pub mod Promises
+pub mod Reference
 pub mod SameRead
 pub mod EncodedJob
