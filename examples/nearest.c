@@ -40,7 +40,7 @@ static int nearest(double radius, uint64_t budget) {
     uint32_t number =
         snowgimmer_nearest(weights, N, mu, N * N, target, N, out, N, radius, budget, &first, &second, &real);
     if (number != SNOWGIMMER_SUCCESS) return refused("nearest", number);
-    printf("nearest: %" PRIu64 " nodes, point", first);
+    printf("nearest: %" PRIu64 " nodes, distance %g, point", first, real);
     print_point(out);
     return 0;
 }

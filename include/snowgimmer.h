@@ -66,9 +66,9 @@
 #include <stdint.h>
 
 #define SNOWGIMMER_VERSION_MAJOR 0
-#define SNOWGIMMER_VERSION_MINOR 2
+#define SNOWGIMMER_VERSION_MINOR 3
 #define SNOWGIMMER_VERSION_PATCH 0
-#define SNOWGIMMER_VERSION "0.2.0"
+#define SNOWGIMMER_VERSION "0.3.0"
 
 /* The largest n. */
 #define SNOWGIMMER_LARGEST_DIMENSION 23
@@ -139,19 +139,21 @@ static inline const char *snowgimmer_refusal_name(uint32_t number) {
 int64_t snowgimmer_round_away(double x);
 
 /* Finds the nearest integer vector inside the radius and writes it to out, coordinate 0 first: first is the number of
- * nodes. Refused: 2 to 9, 15, 16. Stack: 60 kB. */
+ * nodes, and real the point's computed distance, a square: exactly the double that snowgimmer_distance gives for it,
+ * and the first distance of a snowgimmer_list at the same radius. It is finite, and +0 where n is 0. Refused: 2 to 9,
+ * 15, 16. Stack: 60 kB. Before 0.3.0 real was 0 after a success, in all three searches. */
 uint32_t snowgimmer_nearest(const double *weights, size_t weights_len, const double *mu, size_t mu_len,
     const double *target, size_t target_len, int64_t *out, size_t out_len, double radius, uint64_t budget,
     uint64_t *first, uint64_t *second, double *real);
 
 /* The same inside the widened radius, radius + (2^-52 * max(radius, 1)) * 4n, a candidate inside the radius being
- * known. Refused: 2 to 13, 15, 17. Stack: 60 kB. */
+ * known; real is the distance of the point written. Refused: 2 to 13, 15, 17. Stack: 60 kB. */
 uint32_t snowgimmer_nearest_seeded(const double *weights, size_t weights_len, const double *mu, size_t mu_len,
     const double *target, size_t target_len, int64_t *out, size_t out_len, const int64_t *candidate,
     size_t candidate_len, double radius, uint64_t budget, uint64_t *first, uint64_t *second, double *real);
 
-/* The same; the candidate is the nearest-plane point, and the radius that point's distance. Refused: 2 to 7, 9, 11, 13,
- * 15, 17. Stack: 60 kB. */
+/* The same; the candidate is the nearest-plane point, and the radius that point's distance; real is the distance of the
+ * point written. Refused: 2 to 7, 9, 11, 13, 15, 17. Stack: 60 kB. */
 uint32_t snowgimmer_nearest_ml(const double *weights, size_t weights_len, const double *mu, size_t mu_len,
     const double *target, size_t target_len, int64_t *out, size_t out_len, uint64_t budget, uint64_t *first,
     uint64_t *second, double *real);

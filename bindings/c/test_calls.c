@@ -8,6 +8,8 @@
 #include "snowgimmer.h"
 
 #define N 2
+#define LEVELS 3
+#define PLACES 256
 #define MOST (SNOWGIMMER_LARGEST_LIST + 1)
 #define LONG 65
 
@@ -18,6 +20,9 @@ static const double target[N] = {0.25, 0.5};
 static uint64_t first, second;
 static double real;
 static int differences;
+
+static double distances[MOST];
+static int64_t points[MOST * N];
 
 /* What a call told is what was expected of it. */
 static void expect(const char *what, uint32_t number, uint32_t expected, uint64_t one, uint64_t two, double three) {
@@ -53,17 +58,23 @@ static uint32_t nearest(const double *w, const double *m, size_t m_len, const do
 }
 
 static void searches(void) {
-    expect("nearest", nearest(weights, mu, 4, target, 2.0, 100), SNOWGIMMER_SUCCESS, 5, 0, 0.0);
+    expect("nearest", nearest(weights, mu, 4, target, 2.0, 100), SNOWGIMMER_SUCCESS, 5, 0, 0.25);
     expect("budget", nearest(weights, mu, 4, target, 2.0, 4), SNOWGIMMER_BUDGET_EXHAUSTED, 4, 0, 0.25);
     expect("outside", nearest(weights, mu, 4, target, 0.125, 100), SNOWGIMMER_OUTSIDE_RADIUS, 0, 0, 0.125);
     expect("radius", nearest(weights, mu, 4, target, -1.0, 100), SNOWGIMMER_INVALID_RADIUS, 0, 0, -1.0);
     const uint64_t most = SNOWGIMMER_LARGEST_BUDGET;
-    expect("largest budget", nearest(weights, mu, 4, target, 2.0, most), SNOWGIMMER_SUCCESS, 5, 0, 0.0);
+    expect("largest budget", nearest(weights, mu, 4, target, 2.0, most), SNOWGIMMER_SUCCESS, 5, 0, 0.25);
     expect("larger budget", nearest(weights, mu, 4, target, 2.0, most + 1), SNOWGIMMER_BUDGET_RANGE, most + 1, 0, 0.0);
     int64_t out[N];
     uint32_t number = snowgimmer_nearest_ml(weights, N, mu, N * N, target, N, out, N, 100, &first, &second, &real);
-    expect("ml", number, SNOWGIMMER_SUCCESS, 3, 0, 0.0);
+    expect("ml", number, SNOWGIMMER_SUCCESS, 3, 0, 0.25);
     expect_point("ml", out, 0, 1);
+    const int64_t candidate[N] = {1, 1};
+    out[1] = 7;
+    number = snowgimmer_nearest_seeded(weights, N, mu, N * N, target, N, out, N, candidate, N, 2.0, 100, &first,
+        &second, &real);
+    expect("seeded, two levels", number, SNOWGIMMER_SUCCESS, 5, 0, 0.25);
+    expect_point("seeded, two levels", out, 0, 1);
 }
 
 static void tables(void) {
@@ -89,15 +100,12 @@ static uint32_t seeded(double weight, int64_t candidate, size_t len, double radi
 }
 
 static void candidates(void) {
-    expect("seeded", seeded(1.0, 2, 1, 2.25), SNOWGIMMER_SUCCESS, 4, 0, 0.0);
+    expect("seeded", seeded(1.0, 2, 1, 2.25), SNOWGIMMER_SUCCESS, 4, 0, 0.25);
     expect("candidate's length", seeded(1.0, 2, 2, 2.25), SNOWGIMMER_CANDIDATE_LENGTH, 1, 2, 0.0);
     expect("distance overflows", seeded(DBL_MAX, 1 << 30, 1, 1.0), SNOWGIMMER_CANDIDATE_DISTANCE, 0, 0, HUGE_VAL);
     expect("candidate outside", seeded(1.0, 2, 1, 2.0), SNOWGIMMER_CANDIDATE_OUTSIDE, 0, 0, 2.0);
     expect("widened radius", seeded(1.0, 0, 1, DBL_MAX), SNOWGIMMER_WIDENED_RADIUS, 0, 0, HUGE_VAL);
 }
-
-static double distances[MOST];
-static int64_t points[MOST * N];
 
 /* list at radius 2 into so many places */
 static uint32_t list(size_t places) {
@@ -111,6 +119,63 @@ static void lists(void) {
     expect_point("list, farthest", points + 4 * N, 1, 1);
     expect("list full", list(4), SNOWGIMMER_LIST_FULL, 5, 0, 0.0);
     expect("list size", list(MOST), SNOWGIMMER_LIST_SIZE, MOST, 0, 0.0);
+}
+
+/* Two tables of three weights, each with a target, a radius and a candidate inside it. In the first the nearest
+ * point's terms are 2^-53, 2^-53 and 1, and their sum depends on its order. */
+struct table {
+    double weights[LEVELS], mu[LEVELS * LEVELS], target[LEVELS], radius;
+    int64_t candidate[LEVELS];
+};
+
+static const struct table rounded[2] = {
+    {{2 * DBL_EPSILON, 2 * DBL_EPSILON, 4.0}, {0.0}, {0.5, 0.5, 0.5}, 1.0 + DBL_EPSILON, {1, 1, 1}},
+    {{0.3, 0.7, 1.3}, {0.0, 0.0, 0.0, 0.3, 0.0, 0.0, -0.4, 0.1, 0.0}, {0.1, 2.7, -3.3}, 5.0, {1, 2, -3}},
+};
+
+/* The same bits: 0 and -0 are not. */
+static int same(double one, double two) { return memcmp(&one, &two, sizeof one) == 0; }
+
+/* What a search told is its point's distance, and the first of the list. */
+static void expect_distance(const char *what, uint32_t number, const struct table *t, const int64_t *out) {
+    const double told = real;
+    const size_t n = LEVELS;
+    expect_true(what, number == SNOWGIMMER_SUCCESS);
+    number = snowgimmer_distance(t->weights, n, t->mu, n * n, t->target, n, out, n, &first, &second, &real);
+    expect_true(what, number == SNOWGIMMER_SUCCESS && same(told, real));
+    number = snowgimmer_list(t->weights, n, t->mu, n * n, t->target, n, distances, PLACES, points, PLACES * n,
+        t->radius, 1000, &first, &second, &real);
+    expect_true(what, number == SNOWGIMMER_SUCCESS && second > 1 && same(told, distances[0]));
+}
+
+static void found_distances(const struct table *t) {
+    const size_t n = LEVELS;
+    int64_t out[LEVELS];
+    uint32_t number = snowgimmer_nearest(t->weights, n, t->mu, n * n, t->target, n, out, n, t->radius, 1000, &first,
+        &second, &real);
+    expect_distance("distance of nearest", number, t, out);
+    number = snowgimmer_nearest_seeded(t->weights, n, t->mu, n * n, t->target, n, out, n, t->candidate, n, t->radius,
+        1000, &first, &second, &real);
+    expect_distance("distance of seeded", number, t, out);
+    number = snowgimmer_nearest_ml(t->weights, n, t->mu, n * n, t->target, n, out, n, 1000, &first, &second, &real);
+    expect_distance("distance of ml", number, t, out);
+}
+
+/* With n = 0 the distance is +0, whatever the radius. */
+static void no_dimension(void) {
+    int64_t out = 7;
+    uint32_t number = snowgimmer_nearest(weights, 0, mu, 0, target, 0, &out, 0, 4.0, 0, &first, &second, &real);
+    expect("n = 0", number, SNOWGIMMER_SUCCESS, 0, 0, 0.0);
+    expect_true("n = 0", same(real, 0.0));
+    number = snowgimmer_nearest(weights, 0, mu, 0, target, 0, &out, 0, -0.0, 0, &first, &second, &real);
+    expect_true("n = 0, radius -0", number == SNOWGIMMER_SUCCESS && same(real, 0.0));
+    number = snowgimmer_nearest_seeded(weights, 0, mu, 0, target, 0, &out, 0, points, 0, 4.0, 0, &first, &second,
+        &real);
+    expect("n = 0, seeded", number, SNOWGIMMER_SUCCESS, 0, 0, 0.0);
+    expect_true("n = 0, seeded", same(real, 0.0));
+    number = snowgimmer_nearest_ml(weights, 0, mu, 0, target, 0, &out, 0, 0, &first, &second, &real);
+    expect("n = 0, ml", number, SNOWGIMMER_SUCCESS, 0, 0, 0.0);
+    expect_true("n = 0, ml", same(real, 0.0) && out == 7);
 }
 
 static void seeds(void) {
@@ -176,6 +241,8 @@ int main(void) {
     tables();
     candidates();
     lists();
+    for (int i = 0; i < 2; i++) found_distances(&rounded[i]);
+    no_dimension();
     seeds();
     references();
     names();

@@ -66,35 +66,36 @@ class Cases(Test):
     """Cases A to L of docs/SPECIFICATION.md."""
 
     def test_a_no_dimension(self):
-        self.assertEqual(nearest([], [], [], 0, 0), ((), 0))
+        self.assertEqual(nearest([], [], [], 0, 0), ((), 0, 0.0))
         self.assertEqual(list_points([], [], [], 0, 0), (((0.0, ()),), 0))
 
     def test_b_to_d_one_weight(self):
-        self.assertEqual(nearest(*B, 0.25, 1), ((1,), 1))
+        self.assertEqual(nearest(*B, 0.25, 1), ((1,), 1, 0.25))
         self.refused(OutsideRadius, {"radius": 0.125}, nearest, *B, 0.125, 0)
         self.refused(BudgetExhausted, {"nodes": 0, "radius": 0.25}, nearest, *B, 0.25, 0)
 
     def test_e_and_f_a_half(self):
-        self.assertEqual(nearest(*E, 1, 2), ((0,), 2))
+        self.assertEqual(nearest(*E, 1, 2), ((0,), 2, 0.25))
         self.refused(BudgetExhausted, {"nodes": 1, "radius": 0.25}, nearest, *E, 1, 1)
         self.refused(BudgetExhausted, {"nodes": 1, "radius": 1.0}, list_points, *E, 1, 1)
 
     def test_g_two_weights(self):
         found = nearest(*G, 2, 100)
-        self.assertEqual((found.point, found.nodes), ((0, 1), 5))
+        self.assertEqual((found.point, found.nodes, found.distance), ((0, 1), 5, 0.25))
+        self.assertEqual(repr(found), "Nearest(point=(0, 1), nodes=5, distance=0.25)")
         listed = list_points(*G, 2, 100)
         self.assertEqual(listed.nodes, 7)
         points = ((0.25, (0, 1)), (0.5, (0, 0)), (0.5, (1, 0)), (1.25, (-1, 1)), (1.25, (1, 1)))
         self.assertEqual(listed.points, points)
         self.assertEqual((listed.points[0].distance, listed.points[0].point), points[0])
-        self.assertEqual(nearest_ml(*G, 100), ((0, 1), 3))
+        self.assertEqual(nearest_ml(*G, 100), ((0, 1), 3, 0.25))
 
     def test_h_and_i_equal_distances(self):
         self.refused(OutsideRadius, {"radius": 1.0}, nearest, *H, 1, 2)
         for z in (0, 0), (0, 1), (1, 0), (1, 1):
             self.assertEqual(triangular_distance(*H, z), 1.0)
         radius = 1 + 2.0**-52
-        self.assertEqual(nearest(*H, radius, 4), ((0, 1), 4))
+        self.assertEqual(nearest(*H, radius, 4), ((0, 1), 4, 1.0))
         listed = list_points(*H, radius, 6)
         self.assertEqual((len(listed.points), listed.nodes), (4, 6))
 
@@ -104,13 +105,18 @@ class Cases(Test):
         self.assertEqual([round_away(x) for x in (-math.inf, math.nan)], [-2**63, 0])
 
     def test_k_the_largest_target(self):
-        self.assertEqual(nearest([1], [0], [2**52], 0, 1), ((2**52,), 1))
+        self.assertEqual(nearest([1], [0], [2**52], 0, 1), ((2**52,), 1, 0.0))
         self.refused(NonFinite, {"index": 0}, nearest, [1], [0], [2**52 + 1], 0, 1)
 
     def test_l_a_candidate(self):
         self.refused(CandidateOutside, {"radius": 2.0}, nearest_seeded, *E, [2], 2, 100)
-        self.assertEqual(nearest_seeded(*E, [2], 2.25, 100), ((0,), 4))
+        self.assertEqual(nearest_seeded(*E, [2], 2.25, 100), ((0,), 4, 0.25))
         self.refused(BudgetRange, {"budget": 2**60 + 1}, nearest_seeded, *E, [2], 2.25, 2**60 + 1)
+
+
+def bits(x):
+    """A double's bits as the job program prints them: 16 hexadecimal digits."""
+    return struct.pack(">d", x).hex().upper()
 
 
 def read_job(name):
@@ -137,17 +143,17 @@ class Examples(Test):
         """The program's lines of nearest and list."""
         try:
             found = nearest(*job)
-            yield " ".join(map(str, ("nearest", found.nodes, *found.point)))
+            yield " ".join(map(str, ("nearest", found.nodes, bits(found.distance), *found.point)))
             listed = list_points(*job)
         except snowgimmer.Refusal as refusal:
             yield f"nearest refused {refusal.number} search"
             return
         yield f"list {listed.nodes} {len(listed.points)}"
         for each in listed.points:
-            yield " ".join(map(str, (struct.pack(">d", each.distance).hex().upper(), *each.point)))
+            yield " ".join(map(str, (bits(each.distance), *each.point)))
 
     def test_as_printed(self):
-        for name in "two-levels", "twelve-levels", "budget-runs-out":
+        for name in "two-levels", "three-ambiguities", "twelve-levels", "budget-runs-out":
             with open(os.path.join(HERE, "../../examples", f"{name}.out"), encoding="ascii") as file:
                 printed = file.read().split("\n")
             lines = list(self.lines(read_job(name)))
@@ -174,6 +180,40 @@ class Distances(Test):
             self.assertEqual(triangular_distance(weights, mu, target, z), distance(z))
         found = nearest_ml(weights, mu, target, 10000)
         self.assertEqual(distance(found.point), min(map(distance, box)))
+
+    def told(self, weights, mu, target, radius, candidate):
+        """All three searches tell their point's distance, which is the list's first; bit for bit."""
+        table = weights, mu, target
+        first = list_points(*table, radius, 10000, 4096).points[0].distance
+        for found in (nearest(*table, radius, 10000), nearest_seeded(*table, candidate, radius, 10000),
+                      nearest_ml(*table, 10000)):
+            self.assertEqual(bits(found.distance), bits(triangular_distance(*table, found.point)))
+            self.assertEqual(bits(found.distance), bits(first))
+            self.assertEqual((found[0], found[1], found[2]), (found.point, found.nodes, found.distance))
+        return first
+
+    def test_what_a_search_tells(self):
+        self.told(*E, 1, [1])
+        self.told(*G, 2, [1, 1])
+        draw = random.Random(4)
+        for n in list(range(1, 7)) * 20:
+            weights = [draw.uniform(0.5, 4.5) for _ in range(n)]
+            mu = [draw.uniform(-0.5, 0.5) for _ in range(n * n)]
+            target = [draw.uniform(-10, 10) for _ in range(n)]
+            plane = nearest_plane(weights, mu, target).point
+            self.told(weights, mu, target, 1.5 * triangular_distance(weights, mu, target, plane), plane)
+
+    def test_the_order_of_the_sum(self):
+        # the terms are 2^-53, 2^-53 and 1: summed from level 2 down they give 1, from level 0 up 1 + 2^-52
+        self.assertEqual(self.told([2.0**-51, 2.0**-51, 4.0], [0.0] * 9, [0.5] * 3, 1 + 2.0**-52, [1, 1, 1]), 1.0)
+
+    def test_the_radius_is_not_told(self):
+        self.assertEqual(nearest(*E, 1, 2).distance, 0.25)
+        self.assertEqual(nearest_seeded(*E, [2], 2.25, 100).distance, 0.25)
+        for radius in 0.0, -0.0, 4.0:
+            self.assertEqual(bits(nearest([], [], [], radius, 0).distance), "0" * 16)
+            self.assertEqual(bits(nearest_seeded([], [], [], [], radius, 0).distance), "0" * 16)
+        self.assertEqual(bits(nearest_ml([], [], [], 0).distance), "0" * 16)
 
     def test_plane(self):
         plane = nearest_plane(*G)
@@ -330,7 +370,7 @@ class Plain(Test):
         flat = [0.0, 0.0, 0.5, 0.0]
         numbers = array.array("d", flat)
         for mu in flat, tuple(flat), numbers, memoryview(numbers), (ctypes.c_double * 4)(*flat):
-            self.assertEqual(nearest(array.array("d", G[0]), mu, tuple(G[2]), 2, 100), ((0, 1), 5))
+            self.assertEqual(nearest(array.array("d", G[0]), mu, tuple(G[2]), 2, 100), ((0, 1), 5, 0.25))
         self.assertEqual(nearest_seeded(*E, array.array("q", [2]), 2.25, 100).point, (0,))
         integers = array.array("q", [1, 2])
         for point in (1, 2), range(1, 3), integers, memoryview(integers), (ctypes.c_int32 * 2)(1, 2):
@@ -363,8 +403,8 @@ class Arrays(Test):
     def test_taken(self):
         weights, target = ARRAY([1.0, 1.0], (2,)), ARRAY([0.25, 0.5], (2,))
         for mu in ARRAY([0.0, 0.0, 0.5, 0.0], (2, 2)), ARRAY([0.0, 0.0, 0.5, 0.0], (4,)):
-            self.assertEqual(nearest(weights, mu, target, 2, 100), ((0, 1), 5))
-        self.assertEqual(nearest(ARRAY([1.0], (1,)), ARRAY([0.0], (1, 1), "F"), [0.5], 1, 2), ((0,), 2))
+            self.assertEqual(nearest(weights, mu, target, 2, 100), ((0, 1), 5, 0.25))
+        self.assertEqual(nearest(ARRAY([1.0], (1,)), ARRAY([0.0], (1, 1), "F"), [0.5], 1, 2), ((0,), 2, 0.25))
 
     def test_column_major(self):
         mu = ARRAY([0.0, 0.0, 0.5, 0.0], (2, 2), "F")

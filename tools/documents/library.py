@@ -100,10 +100,10 @@ def integers(values):
 
 
 def nearest_ml(weights, mu, target, budget=LARGEST_BUDGET):
-    """The point and its nodes."""
+    """The point, its nodes and its distance."""
     out = integers([0] * len(weights))
-    nodes, _, _ = call("nearest_ml", doubles(weights), doubles(mu), doubles(target), out, ctypes.c_uint64(budget))
-    return list(out), nodes
+    nodes, _, d = call("nearest_ml", doubles(weights), doubles(mu), doubles(target), out, ctypes.c_uint64(budget))
+    return list(out), nodes, d
 
 
 def distance(weights, mu, target, point):

@@ -24,8 +24,7 @@ def crowded(table, radius, budget):
 def fix(weights, mu, target, budget):
     """Raises library.Refused where a call is refused: 15 says that the budget is too small for a verdict."""
     table = weights, mu, target
-    point, nodes = library.nearest_ml(*table, budget)
-    distance = library.distance(*table, point)
+    point, nodes, distance = library.nearest_ml(*table, budget)
     limit = 3.0 * distance
     radius = math.nextafter(limit, math.inf)
     try:

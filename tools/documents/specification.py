@@ -222,7 +222,8 @@ def ended(walk, none, out):
     if walk.best is None:
         raise none
     out[:] = walk.best
-    return (walk.nodes,)
+    # the radius that stands is the best's distance
+    return walk.nodes, walk.standing
 
 
 def nearest(weights, mu, target, out, radius, budget):
@@ -346,13 +347,18 @@ def refusal_line(word, number):
     return f"{word} refused {number} {group}\n"
 
 
+def point_text(d, point):
+    """A distance by its bits, and the point."""
+    return " ".join([struct.pack(">d", d).hex().upper(), *map(str, point)]) + "\n"
+
+
 def nearest_line(weights, mu, target, radius, budget):
     out = [0] * len(weights)
     try:
-        nodes, = nearest(weights, mu, target, out, radius, budget)
+        nodes, d = nearest(weights, mu, target, out, radius, budget)
     except Refusal as refusal:
         return refusal_line("nearest", refusal.number)
-    return " ".join(["nearest", str(nodes), *map(str, out)]) + "\n"
+    return f"nearest {nodes} " + point_text(d, out)
 
 
 def list_lines(weights, mu, target, radius, budget):
@@ -364,7 +370,7 @@ def list_lines(weights, mu, target, radius, budget):
         return refusal_line("list", refusal.number) + "ratio none\n"
     text = f"list {nodes} {count}\n"
     for k in range(count):
-        text += " ".join([struct.pack(">d", distances[k]).hex().upper(), *map(str, points[k * n:k * n + n])]) + "\n"
+        text += point_text(distances[k], points[k * n:k * n + n])
     holds = count == 1 or distances[1] >= 3.0 * distances[0]
     return text + f"ratio {'none' if count == 0 else 'holds' if holds else 'fails'}\n"
 

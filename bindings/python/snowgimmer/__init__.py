@@ -26,7 +26,7 @@ refuses raises a `Refusal`, which has a class for each number.
 
     >>> weights, mu, target = [1, 1], [[0, 0], [0.5, 0]], [0.25, 0.5]
     >>> nearest(weights, mu, target, radius=2, budget=100)
-    Nearest(point=(0, 1), nodes=5)
+    Nearest(point=(0, 1), nodes=5, distance=0.25)
     >>> list_points(weights, mu, target, radius=0.5, budget=100).points[0]
     ListedPoint(distance=0.25, point=(0, 1))
     >>> try:
@@ -52,7 +52,7 @@ from .refusals import (
     TableSize, WeightRange, WidenedRadius)
 from .refusals import refusal as _refusal
 
-__version__ = "0.2.0"
+__version__ = "0.3.0"
 
 LARGEST_DIMENSION = 23
 LARGEST_LIST = 4096
@@ -71,10 +71,11 @@ _loaded = _library.load()
 
 
 class Nearest(NamedTuple):
-    """What a nearest search gives."""
+    """What a nearest search gives. Since 0.3.0 with the distance, so that it unpacks into three."""
 
     point: Tuple[int, ...]  #: the nearest vector, coordinate 0 first
     nodes: int  #: how many nodes the search tried
+    distance: float  #: the vector's computed distance, a square: exactly its `triangular_distance`
 
 
 class ListedPoint(NamedTuple):
@@ -131,38 +132,41 @@ def _budget(budget):
 
 
 def nearest(weights, mu, target, radius, budget):
-    """The nearest integer vector inside the radius, as a `Nearest`. The radius is a square.
+    """The nearest integer vector inside the radius, as a `Nearest`. The radius and the distance are squares.
 
+    Its distance is also the first of `list_points` at the same radius, whose first point may be another one as near.
     Raises 2 to 9 for the table and the arguments, BudgetExhausted, and OutsideRadius if no vector is inside the radius.
     """
     table = _Table(weights, mu, target)
     radius, budget, out = _values.double("radius", radius), _budget(budget), table.point()
-    nodes, _, _ = _call("nearest", (*table.slices(), out), radius, budget)
-    return Nearest(tuple(out), nodes)
+    nodes, _, distance = _call("nearest", (*table.slices(), out), radius, budget)
+    return Nearest(tuple(out), nodes, distance)
 
 
 def nearest_seeded(weights, mu, target, candidate, radius, budget):
-    """The nearest integer vector, a candidate inside the radius being known, as a `Nearest`. The radius is a square.
+    """The nearest integer vector, a candidate inside the radius being known, as a `Nearest`.
 
-    The search is inside radius + (2**-52 * max(radius, 1)) * 4n, so that the candidate itself is found at least.
+    The radius and the distance are squares. The search is inside radius + (2**-52 * max(radius, 1)) * 4n, so that the
+    candidate itself is found at least.
     Raises 2 to 9 for the table and the arguments, 10 to 13 for the candidate and its radius, and BudgetExhausted.
     """
     table = _Table(weights, mu, target)
     candidate = _values.integers("candidate", candidate)
     radius, budget, out = _values.double("radius", radius), _budget(budget), table.point()
-    nodes, _, _ = _call("nearest_seeded", (*table.slices(), out, candidate), radius, budget)
-    return Nearest(tuple(out), nodes)
+    nodes, _, distance = _call("nearest_seeded", (*table.slices(), out, candidate), radius, budget)
+    return Nearest(tuple(out), nodes, distance)
 
 
 def nearest_ml(weights, mu, target, budget):
     """The nearest integer vector of all, from the nearest-plane point as candidate, as a `Nearest`.
 
+    The distance is a square.
     Raises 2 to 7 and 9 for the table and the arguments, 11 and 13 if a distance overflows, and BudgetExhausted.
     """
     table = _Table(weights, mu, target)
     budget, out = _budget(budget), table.point()
-    nodes, _, _ = _call("nearest_ml", (*table.slices(), out), budget)
-    return Nearest(tuple(out), nodes)
+    nodes, _, distance = _call("nearest_ml", (*table.slices(), out), budget)
+    return Nearest(tuple(out), nodes, distance)
 
 
 def list_points(weights, mu, target, radius, budget, places=256):

@@ -9,7 +9,7 @@ fn main() -> Result<(), Refusal> {
 
     // the radius and the distances are squares
     let found = table.nearest(&target, 2.0, 100)?;
-    println!("nearest: {} nodes, point {:?}", found.nodes, found.point);
+    println!("nearest: {} nodes, distance {}, point {:?}", found.nodes, found.distance, found.point);
 
     let (mut distances, mut points) = ([0.0; 256], [0; 512]);
     let list = table.list(&target, &mut distances, &mut points, 2.0, 100)?;

@@ -23,7 +23,7 @@
 //! let target = [0.25, 0.5];
 //! let found = table.nearest(&target, 2.0, 100)?;
 //! assert_eq!(found.point, [0, 1]);
-//! assert_eq!(found.nodes, 5);
+//! assert_eq!((found.nodes, found.distance), (5, 0.25));
 //!
 //! // a budget of 4 nodes is too small by one
 //! let refusal = table.nearest(&target, 2.0, 4).unwrap_err();
@@ -93,13 +93,25 @@ pub fn round_away(x: f64) -> i64 {
     ffi::snowgimmer_round_away(x)
 }
 
+/// What a nearest search gives beside the point that it writes. Since 0.3.0; before, the searches gave the nodes alone.
+#[derive(Debug, Clone, Copy, PartialEq)]
+#[non_exhaustive]
+pub struct Found {
+    /// How many nodes the search tried.
+    pub nodes: u64,
+    /// The point's computed distance, a square: exactly what [`triangular_distance`] gives for it. It is finite, and +0
+    /// where n is 0.
+    pub distance: f64,
+}
+
 /// Finds the nearest integer vector inside the radius, writes it to `out`, coordinate 0 first, and gives the number of
-/// nodes. The radius is a square.
+/// nodes and the vector's distance, which is also the first of a [`list`] at the same radius. The radius and the
+/// distance are squares.
 ///
 /// ```
 /// let mut out = [0; 2];
-/// let nodes = snowgimmer::nearest(&[1.0, 1.0], &[0.0, 0.0, 0.5, 0.0], &[0.25, 0.5], &mut out, 2.0, 100)?;
-/// assert_eq!((nodes, out), (5, [0, 1]));
+/// let found = snowgimmer::nearest(&[1.0, 1.0], &[0.0, 0.0, 0.5, 0.0], &[0.25, 0.5], &mut out, 2.0, 100)?;
+/// assert_eq!((found.nodes, found.distance, out), (5, 0.25, [0, 1]));
 /// # Ok::<(), snowgimmer::Refusal>(())
 /// ```
 ///
@@ -113,7 +125,7 @@ pub fn nearest(
     out: &mut [i64],
     radius: f64,
     budget: u64,
-) -> Result<u64, Refusal> {
+) -> Result<Found, Refusal> {
     // SAFETY: live slices with their own lengths, and `out` is no other's (see the crate's head)
     let report = told(|r| unsafe {
         ffi::snowgimmer_nearest(
@@ -132,16 +144,17 @@ pub fn nearest(
             &mut r.real,
         )
     })?;
-    Ok(report.first)
+    Ok(Found { nodes: report.first, distance: report.real })
 }
 
 /// Finds the nearest integer vector inside the widened radius, a candidate inside the radius being known, writes it to
-/// `out` and gives the number of nodes. The radius is a square; widened it is radius + (2^-52·max(radius, 1))·4n.
+/// `out` and gives the number of nodes and the vector's distance. The radius and the distance are squares; widened the
+/// radius is radius + (2^-52·max(radius, 1))·4n.
 ///
 /// ```
 /// let mut out = [0];
-/// let nodes = snowgimmer::nearest_seeded(&[1.0], &[0.0], &[0.5], &mut out, &[2], 2.25, 100)?;
-/// assert_eq!((nodes, out), (4, [0]));
+/// let found = snowgimmer::nearest_seeded(&[1.0], &[0.0], &[0.5], &mut out, &[2], 2.25, 100)?;
+/// assert_eq!((found.nodes, found.distance, out), (4, 0.25, [0]));
 /// # Ok::<(), snowgimmer::Refusal>(())
 /// ```
 ///
@@ -157,7 +170,7 @@ pub fn nearest_seeded(
     candidate: &[i64],
     radius: f64,
     budget: u64,
-) -> Result<u64, Refusal> {
+) -> Result<Found, Refusal> {
     // SAFETY: live slices with their own lengths, and `out` is no other's (see the crate's head)
     let report = told(|r| unsafe {
         ffi::snowgimmer_nearest_seeded(
@@ -178,16 +191,16 @@ pub fn nearest_seeded(
             &mut r.real,
         )
     })?;
-    Ok(report.first)
+    Ok(Found { nodes: report.first, distance: report.real })
 }
 
-/// Finds the nearest integer vector, writes it to `out` and gives the number of nodes. The candidate is the
-/// nearest-plane point, and the radius that point's distance.
+/// Finds the nearest integer vector, writes it to `out` and gives the number of nodes and the vector's distance, a
+/// square. The candidate is the nearest-plane point, and the radius that point's distance.
 ///
 /// ```
 /// let mut out = [0];
-/// let nodes = snowgimmer::nearest_ml(&[4.0], &[0.0], &[0.75], &mut out, 100)?;
-/// assert_eq!((nodes, out), (1, [1]));
+/// let found = snowgimmer::nearest_ml(&[4.0], &[0.0], &[0.75], &mut out, 100)?;
+/// assert_eq!((found.nodes, found.distance, out), (1, 0.25, [1]));
 /// # Ok::<(), snowgimmer::Refusal>(())
 /// ```
 ///
@@ -195,7 +208,7 @@ pub fn nearest_seeded(
 ///
 /// 2 to 7 and 9, the table and the call; 11 and 13, the candidate's distance; [`Refusal::BudgetExhausted`];
 /// [`Refusal::NoSeed`].
-pub fn nearest_ml(weights: &[f64], mu: &[f64], target: &[f64], out: &mut [i64], budget: u64) -> Result<u64, Refusal> {
+pub fn nearest_ml(weights: &[f64], mu: &[f64], target: &[f64], out: &mut [i64], budget: u64) -> Result<Found, Refusal> {
     // SAFETY: live slices with their own lengths, and `out` is no other's (see the crate's head)
     let report = told(|r| unsafe {
         ffi::snowgimmer_nearest_ml(
@@ -213,7 +226,7 @@ pub fn nearest_ml(weights: &[f64], mu: &[f64], target: &[f64], out: &mut [i64], 
             &mut r.real,
         )
     })?;
-    Ok(report.first)
+    Ok(Found { nodes: report.first, distance: report.real })
 }
 
 /// What a list gives beside the slices that it writes.

@@ -1,6 +1,6 @@
 //! A table with its calls as methods, and what they give.
 
-use crate::{LARGEST_DIMENSION, Refusal};
+use crate::{Found, LARGEST_DIMENSION, Refusal};
 use core::fmt;
 use core::ops::{Deref, DerefMut};
 
@@ -61,7 +61,7 @@ impl<'a> Table<'a> {
     /// ```
     /// let table = snowgimmer::Table::new(&[1.0], &[0.0]);
     /// let found = table.nearest_seeded(&[0.5], &[2], 2.25, 100)?;
-    /// assert_eq!((found.point[0], found.nodes), (0, 4));
+    /// assert_eq!((found.point[0], found.nodes, found.distance), (0, 4, 0.25));
     /// # Ok::<(), snowgimmer::Refusal>(())
     /// ```
     ///
@@ -144,22 +144,25 @@ impl<'a> Table<'a> {
         crate::triangular_distance(self.weights, self.mu, target, point)
     }
 
-    /// The point that a search writes, and its nodes.
-    fn search(&self, call: impl FnOnce(&mut [i64]) -> Result<u64, Refusal>) -> Result<Nearest, Refusal> {
+    /// The point that a search writes, its nodes and its distance.
+    fn search(&self, call: impl FnOnce(&mut [i64]) -> Result<Found, Refusal>) -> Result<Nearest, Refusal> {
         let mut point = Point::zero(self.dimension());
-        let nodes = call(&mut point)?;
-        Ok(Nearest { point, nodes })
+        let Found { nodes, distance } = call(&mut point)?;
+        Ok(Nearest { point, nodes, distance })
     }
 }
 
 /// What a nearest search gives.
-#[derive(Debug, Clone, Copy, PartialEq, Eq)]
+#[derive(Debug, Clone, Copy, PartialEq)]
 #[non_exhaustive]
 pub struct Nearest {
     /// The nearest vector.
     pub point: Point,
     /// How many nodes the search tried.
     pub nodes: u64,
+    /// The vector's computed distance, a square: exactly what [`Table::triangular_distance`] gives for it. It is
+    /// finite, and +0 where n is 0. Since 0.3.0.
+    pub distance: f64,
 }
 
 /// A vector of up to 23 integers, coordinate 0 first: a slice by value.

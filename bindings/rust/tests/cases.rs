@@ -14,6 +14,9 @@ const E: Bench = Bench { weights: &[1.0], mu: &[0.0], target: &[0.5] };
 const G: Bench = Bench { weights: &[1.0, 1.0], mu: &[0.0, 0.0, 0.5, 0.0], target: &[0.25, 0.5] };
 const H: Bench = Bench { weights: &[f64::EPSILON * 2.0, 4.0], mu: &[0.0; 4], target: &[0.5, 0.5] };
 
+/// A point, its nodes and its distance.
+type Nearest = (Vec<i64>, u64, f64);
+
 /// Points, each after its distance.
 type Points = Vec<(f64, Vec<i64>)>;
 
@@ -21,23 +24,23 @@ type Points = Vec<(f64, Vec<i64>)>;
 const LIMIT: f64 = 4503599627370496.0;
 
 impl Bench<'_> {
-    /// The point and the node count.
-    fn nearest(&self, radius: f64, budget: u64) -> Result<(Vec<i64>, u64), Refusal> {
+    /// The point, the node count and the distance.
+    fn nearest(&self, radius: f64, budget: u64) -> Result<Nearest, Refusal> {
         let mut out = vec![0; self.weights.len()];
-        let nodes = nearest(self.weights, self.mu, self.target, &mut out, radius, budget)?;
-        Ok((out, nodes))
+        let found = nearest(self.weights, self.mu, self.target, &mut out, radius, budget)?;
+        Ok((out, found.nodes, found.distance))
     }
 
-    fn seeded(&self, candidate: &[i64], radius: f64, budget: u64) -> Result<(Vec<i64>, u64), Refusal> {
+    fn seeded(&self, candidate: &[i64], radius: f64, budget: u64) -> Result<Nearest, Refusal> {
         let mut out = vec![0; self.weights.len()];
-        let nodes = nearest_seeded(self.weights, self.mu, self.target, &mut out, candidate, radius, budget)?;
-        Ok((out, nodes))
+        let found = nearest_seeded(self.weights, self.mu, self.target, &mut out, candidate, radius, budget)?;
+        Ok((out, found.nodes, found.distance))
     }
 
-    fn ml(&self, budget: u64) -> Result<(Vec<i64>, u64), Refusal> {
+    fn ml(&self, budget: u64) -> Result<Nearest, Refusal> {
         let mut out = vec![0; self.weights.len()];
-        let nodes = nearest_ml(self.weights, self.mu, self.target, &mut out, budget)?;
-        Ok((out, nodes))
+        let found = nearest_ml(self.weights, self.mu, self.target, &mut out, budget)?;
+        Ok((out, found.nodes, found.distance))
     }
 
     /// The node count and the points, with 256 places.
@@ -53,28 +56,28 @@ impl Bench<'_> {
 #[test]
 fn a_no_dimension() {
     let none = Bench { weights: &[], mu: &[], target: &[] };
-    assert_eq!(none.nearest(0.0, 0), Ok((vec![], 0)));
+    assert_eq!(none.nearest(0.0, 0), Ok((vec![], 0, 0.0)));
     assert_eq!(none.list(0.0, 0), Ok((0, vec![(0.0, vec![])])));
 }
 
 #[test]
 fn b_to_d_one_weight() {
-    assert_eq!(B.nearest(0.25, 1), Ok((vec![1], 1)));
+    assert_eq!(B.nearest(0.25, 1), Ok((vec![1], 1, 0.25)));
     assert_eq!(B.nearest(0.125, 0), Err(Refusal::OutsideRadius { radius: 0.125 }));
     assert_eq!(B.nearest(0.25, 0), Err(Refusal::BudgetExhausted { nodes: 0, radius: 0.25 }));
 }
 
 #[test]
 fn e_and_f_a_half() {
-    assert_eq!(E.nearest(1.0, 2), Ok((vec![0], 2)));
+    assert_eq!(E.nearest(1.0, 2), Ok((vec![0], 2, 0.25)));
     assert_eq!(E.nearest(1.0, 1), Err(Refusal::BudgetExhausted { nodes: 1, radius: 0.25 }));
     assert_eq!(E.list(1.0, 1), Err(Refusal::BudgetExhausted { nodes: 1, radius: 1.0 }));
 }
 
 #[test]
 fn g_two_weights() {
-    assert_eq!(G.nearest(2.0, 100), Ok((vec![0, 1], 5)));
-    assert_eq!(G.ml(100), Ok((vec![0, 1], 3)));
+    assert_eq!(G.nearest(2.0, 100), Ok((vec![0, 1], 5, 0.25)));
+    assert_eq!(G.ml(100), Ok((vec![0, 1], 3, 0.25)));
     let points = [(0.25, [0, 1]), (0.5, [0, 0]), (0.5, [1, 0]), (1.25, [-1, 1]), (1.25, [1, 1])];
     assert_eq!(G.list(2.0, 100), Ok((7, points.map(|(d, z)| (d, z.to_vec())).to_vec())));
 }
@@ -83,7 +86,7 @@ fn g_two_weights() {
 fn h_and_i_equal_distances() {
     assert_eq!(H.nearest(1.0, 2), Err(Refusal::OutsideRadius { radius: 1.0 }));
     let radius = 1.0 + f64::EPSILON;
-    assert_eq!(H.nearest(radius, 4), Ok((vec![0, 1], 4)));
+    assert_eq!(H.nearest(radius, 4), Ok((vec![0, 1], 4, 1.0)));
     let (nodes, points) = H.list(radius, 6).unwrap();
     assert_eq!((nodes, points.len()), (6, 4));
 }
@@ -96,14 +99,14 @@ fn j_rounding() {
 #[test]
 fn k_the_largest_target() {
     let at = |target: f64| Bench { weights: &[1.0], mu: &[0.0], target: &[target] }.nearest(0.0, 1);
-    assert_eq!(at(LIMIT), Ok((vec![1 << 52], 1)));
+    assert_eq!(at(LIMIT), Ok((vec![1 << 52], 1, 0.0)));
     assert_eq!(at(LIMIT + 1.0), Err(Refusal::NonFinite { index: 0 }));
 }
 
 #[test]
 fn l_a_candidate() {
     assert_eq!(E.seeded(&[2], 2.0, 100), Err(Refusal::CandidateOutside { radius: 2.0 }));
-    assert_eq!(E.seeded(&[2], 2.25, 100), Ok((vec![0], 4)));
+    assert_eq!(E.seeded(&[2], 2.25, 100), Ok((vec![0], 4, 0.25)));
     let budget = (1 << 60) + 1;
     assert_eq!(E.seeded(&[2], 2.25, budget), Err(Refusal::BudgetRange { budget }));
 }

@@ -1,6 +1,6 @@
 //! The stack that the calls need at n = 23: 1 MB holds a list, and 64 kB the other searches.
 
-use snowgimmer::{Refusal, list, nearest, nearest_ml, nearest_seeded};
+use snowgimmer::{Found, Refusal, list, nearest, nearest_ml, nearest_seeded};
 use std::thread;
 
 const N: usize = 23;
@@ -14,10 +14,10 @@ fn within<A: Send>(bytes: usize, call: impl FnOnce() -> A + Send) -> A {
     thread::scope(|s| thread::Builder::new().stack_size(bytes).spawn_scoped(s, call).unwrap().join().unwrap())
 }
 
-fn search(call: impl FnOnce(&mut [i64]) -> Result<u64, Refusal> + Send) {
+fn search(call: impl FnOnce(&mut [i64]) -> Result<Found, Refusal> + Send) {
     let mut out = [1; N];
-    assert_eq!(within(64 << 10, || call(&mut out)), Ok(N as u64));
-    assert_eq!(out, ZERO);
+    let found = within(64 << 10, || call(&mut out)).unwrap();
+    assert_eq!((found.nodes, found.distance, out), (N as u64, 0.0, ZERO));
 }
 
 #[test]

@@ -13,13 +13,15 @@ fn table() -> Table<'static> {
 #[test]
 fn searches() {
     let found = table().nearest(&TARGET, 2.0, 100).unwrap();
-    assert_eq!((&found.point[..], found.nodes), (&[0, 1][..], 5));
+    assert_eq!((&found.point[..], found.nodes, found.distance), (&[0, 1][..], 5, 0.25));
     let found = table().nearest_ml(&TARGET, 100).unwrap();
-    assert_eq!((&found.point[..], found.nodes), (&[0, 1][..], 3));
-    let found = table().nearest_seeded(&TARGET, &[1, 1], 2.0, 100).unwrap();
+    assert_eq!((&found.point[..], found.nodes, found.distance), (&[0, 1][..], 3, 0.25));
+    let by_table = table().nearest_seeded(&TARGET, &[1, 1], 2.0, 100).unwrap();
     let mut out = [0; 2];
-    let nodes = snowgimmer::nearest_seeded(&WEIGHTS, ROWS.as_flattened(), &TARGET, &mut out, &[1, 1], 2.0, 100);
-    assert_eq!((&found.point[..], Ok(found.nodes)), (&out[..], nodes));
+    let found =
+        snowgimmer::nearest_seeded(&WEIGHTS, ROWS.as_flattened(), &TARGET, &mut out, &[1, 1], 2.0, 100).unwrap();
+    assert_eq!((by_table.nodes, by_table.distance), (found.nodes, found.distance));
+    assert_eq!(by_table.point, out);
 }
 
 #[test]

@@ -47,6 +47,10 @@ module _ (t : Table) where
   pub vector-all : (zs : List ℤ) → T (isVector t zs) → T (allI64 zs)
   vector-all zs v = and-r (eqb (length zs) (dimension t)) (allI64 zs) (subst T (vector-is zs) v)
 
+  pub vector-empty : (zs : List ℤ) → T (isVector t zs) → dimension t ≡ 0 → zs ≡ []
+  vector-empty [] v e = refl
+  vector-empty (z ∷ zs) v e = absurd (omega (arith, vector-length (z ∷ zs) v, e))
+
   pub vector-intro : (zs : List ℤ) → length zs ≡ dimension t → T (allI64 zs) → T (isVector t zs)
   vector-intro zs e a = subst T (sym (vector-is zs)) (and-i (eqb (length zs) (dimension t)) (allI64 zs) (eq→eqb e) a)
 
@@ -74,6 +78,9 @@ module _ (t : Table) where
     pub admitted-is : (zs : List ℤ) → admitted t target R zs ≡ (isVector t zs && passes t target R zs)
     unfolding admitted
     admitted-is zs = refl
+
+    pub admitted-vector : (zs : List ℤ) → T (admitted t target R zs) → T (isVector t zs)
+    admitted-vector zs h = and-l (isVector t zs) (passes t target R zs) (subst T (admitted-is zs) h)
 
     pub passesFirst-nil : passesFirst t target R [] ≡ false
     unfolding passesFirst

@@ -46,7 +46,7 @@ module _ (none : Refusal) where
   unfolding endOfNearest
   end-nothing R m = refl
 
-  pub end-point : (zs : List ℤ) (R : Float) (m : ℕ) → endOfNearest none (ended (best zs) R m) ≡ found (record { nodes = m; point = zs })
+  pub end-point : (zs : List ℤ) (R : Float) (m : ℕ) → endOfNearest none (ended (best zs) R m) ≡ found (record { nodes = m; distance = R; point = zs })
   unfolding endOfNearest
   end-point zs R m = refl
 

@@ -1,10 +1,10 @@
--- The bench cases of docs/SPECIFICATION.md, A to L and those of `change_reference`, proved together by one evaluation of the definitions. Case I's list is taken with a budget of 6 (docs/DECISIONS.md).
+-- The bench cases of docs/SPECIFICATION.md, A to L, the case "distance" and those of `change_reference`, proved together by one evaluation of the definitions. Case I's list is taken with a budget of 6 (docs/DECISIONS.md).
 -- Assumes nothing.
 use mathlib.Core.Path.{_≡_, refl}
 use Prim.Native.Nat.{ℕ, zero, suc, _+_, _-_, _/_, _%_, _^_}
 use mathlib.Core.Bool.{true, false}
 use mathlib.Core.List.{List, [], _∷_, _++_, map}
-use lib.ListN.{length}
+use lib.ListN.{length, replicate}
 use lib.IntN.{ℤ, pos, negsuc}
 use lib.Ieee.{Float, fin, binary64, toBits}
 use Rattle.rounding.specs.Integers.{roundAway}
@@ -69,12 +69,22 @@ tableH = record { weights = over 1 50 ∷ four ∷ []; mu = plusZero ∷ plusZer
 abbrev targetH : List Float
 targetH = half ∷ half ∷ []
 
+-- three levels with the terms 2^-53, 2^-53 and 1: summed from level 2 down they give 1, from level 0 up 1 + 2^-52
+abbrev tableDistance : Table
+tableDistance = record { weights = over 1 50 ∷ over 1 50 ∷ four ∷ []; mu = replicate 9 plusZero }
+
+abbrev targetDistance : List Float
+targetDistance = half ∷ half ∷ half ∷ []
+
 -- what the lent slices hold before a call
 abbrev out1 : List ℤ
 out1 = pos 7 ∷ []
 
 abbrev out2 : List ℤ
 out2 = pos 7 ∷ pos 7 ∷ []
+
+abbrev out3 : List ℤ
+out3 = pos 7 ∷ out2
 
 abbrev places : List Float
 places = one ∷ one ∷ one ∷ one ∷ one ∷ []
@@ -85,8 +95,8 @@ places1 = pos 7 ∷ pos 7 ∷ pos 7 ∷ pos 7 ∷ pos 7 ∷ []
 abbrev places2 : List ℤ
 places2 = places1 ++ places1
 
-abbrev at : ℕ → List ℤ → Answer NearestPoint
-at nodes zs = found (record { nodes = nodes; point = zs })
+abbrev at : ℕ → Float → List ℤ → Answer NearestPoint
+at nodes d zs = found (record { nodes = nodes; distance = d; point = zs })
 
 abbrev listed : ℕ → List ListPoint → Answer ListAnswer
 listed nodes ps = found (record { nodes = nodes; points = ps })
@@ -112,25 +122,35 @@ nearestCases =
     ∷ nearestSeeded tableE targetE out1 (pos 2 ∷ []) two 100
     ∷ nearestSeeded tableE targetE out1 (pos 2 ∷ []) (over 9 1) 100
     ∷ nearestSeeded tableE targetE out1 (pos 2 ∷ []) (over 9 1) (2 ^ 60 + 1)
+    ∷ nearestSeeded tableA [] [] [] four 0
+    ∷ nearestMl tableA [] [] 0
+    ∷ nearest tableDistance targetDistance out3 aboveOne 100
+    ∷ nearestSeeded tableDistance targetDistance out3 (pos 1 ∷ pos 1 ∷ pos 1 ∷ []) aboveOne 100
+    ∷ nearestMl tableDistance targetDistance out3 100
     ∷ []
 
 abbrev nearestAnswers : List (Answer NearestPoint)
 nearestAnswers =
-    at 0 []
-    ∷ at 1 (pos 1 ∷ [])
+    at 0 plusZero []
+    ∷ at 1 quarter (pos 1 ∷ [])
     ∷ refused (outsideRadius (over 1 2))
     ∷ refused (budgetExhausted 0 quarter)
-    ∷ at 2 (pos 0 ∷ [])
+    ∷ at 2 quarter (pos 0 ∷ [])
     ∷ refused (budgetExhausted 1 quarter)
-    ∷ at 5 (pos 0 ∷ pos 1 ∷ [])
-    ∷ at 3 (pos 0 ∷ pos 1 ∷ [])
+    ∷ at 5 quarter (pos 0 ∷ pos 1 ∷ [])
+    ∷ at 3 quarter (pos 0 ∷ pos 1 ∷ [])
     ∷ refused (outsideRadius one)
-    ∷ at 4 (pos 0 ∷ pos 1 ∷ [])
-    ∷ at 1 (pos (2 ^ 52) ∷ [])
+    ∷ at 4 one (pos 0 ∷ pos 1 ∷ [])
+    ∷ at 1 plusZero (pos (2 ^ 52) ∷ [])
     ∷ refused (nonFinite 0)
     ∷ refused (candidateOutside two)
-    ∷ at 4 (pos 0 ∷ [])
+    ∷ at 4 quarter (pos 0 ∷ [])
     ∷ refused (budgetRange (2 ^ 60 + 1))
+    ∷ at 0 plusZero []
+    ∷ at 0 plusZero []
+    ∷ at 6 one (pos 0 ∷ pos 1 ∷ pos 1 ∷ [])
+    ∷ at 14 one (pos 0 ∷ pos 1 ∷ pos 1 ∷ [])
+    ∷ at 10 one (pos 0 ∷ pos 1 ∷ pos 1 ∷ [])
     ∷ []
 
 -- ---- list
@@ -208,7 +228,14 @@ abbrev jobG : List ℕ
 jobG = sectionOf (bits (one ∷ one ∷ [])) ++ sectionOf (bits (half ∷ [])) ++ sectionOf (bits targetG) ++ sectionOf (bits (two ∷ [])) ++ sectionOf (100 ∷ [])
 
 abbrev printedG : List ℕ
-printedG = text "nearest 5 0 1\nlist 7 5\n3FD0000000000000 0 1\n3FE0000000000000 0 0\n3FE0000000000000 1 0\n3FF4000000000000 -1 1\n3FF4000000000000 1 1\nratio fails\n"
+printedG = text "nearest 5 3FD0000000000000 0 1\nlist 7 5\n3FD0000000000000 0 1\n3FE0000000000000 0 0\n3FE0000000000000 1 0\n3FF4000000000000 -1 1\n3FF4000000000000 1 1\nratio fails\n"
+
+-- ---- A as a job: radius 0 and budget 0
+abbrev jobA : List ℕ
+jobA = sectionOf [] ++ sectionOf [] ++ sectionOf [] ++ sectionOf (0 ∷ []) ++ sectionOf (0 ∷ [])
+
+abbrev printedA : List ℕ
+printedA = text "nearest 0 0000000000000000\nlist 0 1\n0000000000000000\nratio holds\n"
 
 pub record Cases : Type 0 where
   pub nearest-cases : nearestCases ≡ nearestAnswers
@@ -219,6 +246,7 @@ pub record Cases : Type 0 where
   pub all-admitted : map (admitted tableH targetH aboveOne) fourVectors ≡ true ∷ true ∷ true ∷ true ∷ []
   pub reference-cases : referenceCases ≡ referenceAnswers
   pub printed : jobOutput jobG ≡ printedG
+  pub printed-empty : jobOutput jobA ≡ printedA
 
 pub cases : Cases
 unfolding nearest list nearestSeeded nearestMl roundAway changeReference changeOutput partial admitted jobOutput text toBits bytesOf joined
@@ -231,4 +259,5 @@ cases = record {
   all-admitted = refl;
   reference-cases = refl;
   printed = refl;
+  printed-empty = refl;
 }

@@ -26,16 +26,17 @@ after pass answer = answer
 
 -- ---- nearest, nearest_seeded, nearest_ml
 
--- a point that was found, with the number of nodes
+-- a point that was found, with the number of nodes and its distance
 pub record NearestPoint : Type 0 where
   pub nodes : ℕ
+  pub distance : Float
   pub point : List ℤ
 
--- how a call ends by its walk; `none` is the refusal if nothing was found
+-- how a call ends by its walk; `none` is the refusal if nothing was found. The radius that stands with a best is the best's distance.
 unfoldable pub endOfNearest : Refusal → Walked Best → Answer NearestPoint
 endOfNearest none (exhausted nodes standing) = refused (budgetExhausted nodes standing)
 endOfNearest none (ended no-best standing nodes) = refused none
-endOfNearest none (ended (best zs) standing nodes) = found (record { nodes = nodes; point = zs })
+endOfNearest none (ended (best zs) standing nodes) = found (record { nodes = nodes; distance = standing; point = zs })
 
 -- 2 to 5, then 6 (target, then output) and 7, with the largest n given
 unfoldable pub searchChecks : ℕ → Table → List Float → List ℤ → List Verdict

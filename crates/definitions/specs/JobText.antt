@@ -74,10 +74,10 @@ refusalLine word number = word ++ text " refused " ++ decimal number ++ text " "
 
 -- ---- the lines
 
--- the line of `nearest`: the nodes and the point
+-- the line of `nearest`: the nodes, the distance by 16 digits and the point
 unfoldable pub nearestLine : Answer NearestPoint → List ℕ
-unfolding text decimal pointText refusalLine
-nearestLine (found a) = text "nearest " ++ decimal (a .nodes) ++ pointText (a .point) ++ newline
+unfolding text decimal hexadecimal pointText refusalLine
+nearestLine (found a) = text "nearest " ++ decimal (a .nodes) ++ text " " ++ hexadecimal (a .distance) ++ pointText (a .point) ++ newline
 nearestLine (refused e) = refusalLine (text "nearest") (e .number)
 
 -- a line for each point: its distance by 16 digits, then its coordinates

@@ -17,7 +17,7 @@ use Rattle.enumerate.specs.View.{walkOutput, NearestAnswered}
 pub output-walked : (none : Refusal) (w : Walked Best) (out : List ℤ) → walkOutput w out ≡ nearestOutput (endOfNearest none w) out
 output-walked none (exhausted m R) out = sym (ap (λ (a : Answer NearestPoint). nearestOutput a out) (end-exhausted none m R) ∙ output-refused (budgetExhausted m R) out)
 output-walked none (ended no-best R m) out = sym (ap (λ (a : Answer NearestPoint). nearestOutput a out) (end-nothing none R m) ∙ output-refused none out)
-output-walked none (ended (best zs) R m) out = sym (ap (λ (a : Answer NearestPoint). nearestOutput a out) (end-point none zs R m) ∙ output-found (record { nodes = m; point = zs }) out)
+output-walked none (ended (best zs) R m) out = sym (ap (λ (a : Answer NearestPoint). nearestOutput a out) (end-point none zs R m) ∙ output-found (record { nodes = m; distance = R; point = zs }) out)
 
 -- a refusal leaves the slice
 pub answered-refused : {a : Answer NearestPoint} (e : CodeRefusal) (out : List ℤ) → a ≡ refused (numbered e) → NearestAnswered a out (Refused e) out

@@ -31,7 +31,7 @@ pub record NearestWalked (w : Walked Best) (out : List ℤ) (r : Ending) (out′
 
 -- the answer, out being the output slice at exit
 abbrev pub nearestAnswer : NearestAnswer → List ℤ → Answer C.NearestPoint
-nearestAnswer (Found p) out = found (record { nodes = p .nodes; point = out })
+nearestAnswer (Found p) out = found (record { nodes = p .nodes; distance = p .distance; point = out })
 nearestAnswer (Refused e) out = refused (numbered e)
 
 -- a call's answer r and what it leaves in the output slice are what the specification's answer a says

@@ -21,6 +21,7 @@ use search::run;
 // What a nearest search gives beside the point that it writes.
 pub struct NearestPoint {
     pub nodes: u64,
+    pub distance: f64,
 }
 
 // The answer of a nearest search.
@@ -29,7 +30,8 @@ pub enum NearestAnswer {
     Refused(Refusal),
 }
 
-// How a nearest walk ended: with a point, with none, or out of budget; each with the nodes and the radius that stood.
+// How a nearest walk ended: with a point, with none, or out of budget; each with the nodes and the radius that stood,
+// which is the distance of a point found.
 enum Ending {
     Point(u64, f64),
     Nothing(u64, f64),
@@ -84,7 +86,9 @@ fn answer_of(end: Ending, none: Refusal) -> NearestAnswer
     ensures { λ r. ⌜ ((out : List ℤ) → nearestAnswer r out ≡ C.endOfNearest (numbered none) (walkedOf end out)) ⌝ }
 {
     match end {
-        Ending::Point(nodes, _) => return NearestAnswer::Found(NearestPoint { nodes }),
+        Ending::Point(nodes, distance) => {
+            return NearestAnswer::Found(NearestPoint { nodes, distance });
+        }
         Ending::Nothing(_, _) => return NearestAnswer::Refused(none),
         Ending::Exhausted(nodes, radius) => {
             return NearestAnswer::Refused(Refusal::BudgetExhausted(nodes, radius));
@@ -110,7 +114,8 @@ pub fn nearest_within(
     answer_of(end, none)
 }
 
-// Finds the nearest integer vector inside the radius and writes it to out, coordinate 0 first.
+// Finds the nearest integer vector inside the radius and writes it to out, coordinate 0 first; tells the nodes and the
+// point's distance.
 //
 // Refused: 2 to 9, the table and the call; 15, the budget ran out (nodes, the radius that stood); 16, no vector is
 // inside (radius). A refusal leaves out as it was.

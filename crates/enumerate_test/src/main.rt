@@ -1,7 +1,8 @@
 // What `nearest` answers and leaves in the slice that it is lent. Each line of the output has a case's name, then
-// `found` and the node count, or the refusal's number with what it carries in brackets, then the slice at exit, in
-// square brackets. Before the call it holds 7, -8, 9 and the smallest i64, or 7 in 23 places, and so it must after a
-// refusal. Where a case parts the specification from another reading, its comment names that.
+// `found`, the node count and the point's distance, as the 16 hexadecimal digits of its bits, or the refusal's number
+// with what it carries in brackets, then the slice at exit, in square brackets. Before the call it holds 7, -8, 9 and
+// the smallest i64, or 7 in 23 places, and so it must after a refusal. Where a case parts the specification from
+// another reading, its comment names that.
 //
 // The expected output of every call that the Rust knows is the Rust's: this program compiled as Rust, with the oracle
 // in the place of the crate `enumerate` (tools/oracle/examples/enumerate_test.rs). The lines of refusals 2 to 5 and 9,
@@ -21,7 +22,7 @@ fn nearest(
 ) {
     printing::word(name);
     match enumerate::nearest(weights, mu, target, out, radius, budget) {
-        NearestAnswer::Found(point) => printing::found(point.nodes),
+        NearestAnswer::Found(point) => printing::found(point.nodes, point.distance),
         NearestAnswer::Refused(e) => printing::verdict(Verdict::Refuse(e)),
     }
     printing::integers(out);
@@ -202,6 +203,19 @@ fn sums() {
     two(b"weight first:", [0.7, 1.4], 0.0, [1.4, 2.5], 1.6, 100);
 }
 
+// ---- the distance
+
+// The first point found is [-1, 1, 2], at about 0.544. Other readings: the call's radius; the first point's distance;
+// the terms summed from level 0 upward; a centre or a term in another order or rounded otherwise, as under the sums.
+// Each gives other bits here.
+fn found_distances() {
+    let weights = [1.7, 0.4, 2.1];
+    let entries = [-0.7, 0.3, 0.9];
+    let target = [-1.4, 0.9, 1.7];
+    three(b"distance:", weights, entries, target, 1.3, 100);
+    three(b"distance, 4 nodes:", weights, entries, target, 1.3, 4);
+}
+
 // ---- the ends of the domain
 
 // With the smallest weight two points are at distance 0: minus zero stands until the first, then plus zero.
@@ -298,11 +312,14 @@ fn centers() {
     );
 }
 
+// At n = 0 the distance is plus zero, whatever the radius.
 fn dimensions() {
     let none = [0.0; 0];
     let mut no_places = [0i64; 0];
     let mut one_place = [7];
     nearest(b"A:", &none, &none, &none, &mut no_places, 0.0, 0);
+    nearest(b"A, -0:", &none, &none, &none, &mut no_places, -0.0, 0);
+    nearest(b"A, 4:", &none, &none, &none, &mut no_places, 4.0, 0);
     nearest(
         b"A, largest radius:",
         &none,
@@ -442,6 +459,7 @@ fn main() {
     equals();
     tests();
     sums();
+    found_distances();
     radii();
     budgets();
     centers();

@@ -4,9 +4,9 @@ use Rattle.definitions.specs.Table.{largestDimension}
 use Rattle.definitions.specs.JobText.{jobPlaces}
 use Rattle.writing.specs.Sizes.{decimalSize, hexadecimalSize, pointSize}
 
--- "nearest ", the count, the point, the line's end
+-- "nearest ", the count, a blank, the distance, the point, the line's end
 abbrev pub nearestSize : ℕ
-nearestSize = 8 + decimalSize + pointSize largestDimension + 1
+nearestSize = 8 + decimalSize + 1 + hexadecimalSize + pointSize largestDimension + 1
 
 -- a listed point's distance, the point, the line's end
 abbrev pub listedSize : ℕ

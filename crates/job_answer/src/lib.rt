@@ -34,7 +34,12 @@ use writing::refusal_line;
 const PLACES: usize = 256;
 
 // The most bytes of a job's nearest line: `nearestSize`.
-const NEAREST_SIZE: usize = 8 + DECIMAL_SIZE + COORDINATE_SIZE * LARGEST_DIMENSION + 1;
+const NEAREST_SIZE: usize = 8
+    + DECIMAL_SIZE
+    + 1
+    + HEXADECIMAL_SIZE
+    + COORDINATE_SIZE * LARGEST_DIMENSION
+    + 1;
 
 // Of a listed point's line: `listedSize`.
 const LISTED_SIZE: usize = HEXADECIMAL_SIZE + COORDINATE_SIZE * LARGEST_DIMENSION + 1;
@@ -45,7 +50,7 @@ const LIST_SIZE: usize = 5 + DECIMAL_SIZE + 1 + DECIMAL_SIZE + 1 + LISTED_SIZE *
 // Of the ratio's line: `ratioSize`.
 const RATIO_SIZE: usize = 12;
 
-// Of a whole text: `outputSize`, 134,482.
+// Of a whole text: `outputSize`, 134,499.
 pub const OUTPUT_SIZE: usize = NEAREST_SIZE + LIST_SIZE + RATIO_SIZE;
 
 // How a job was answered: with so many bytes, or, where the output is too short for them, with their number alone.
@@ -63,7 +68,9 @@ fn nearest_line(out: &mut [u8], at: usize, answer: NearestAnswer, zs: &[i64]) ->
         NearestAnswer::Found(f) => {
             let after_word = put(out, at, b"nearest ");
             let after_count = decimal(out, after_word, f.nodes);
-            let after_point = point(out, after_count, zs);
+            let after_blank = put(out, after_count, b" ");
+            let after_distance = hexadecimal(out, after_blank, f.distance);
+            let after_point = point(out, after_distance, zs);
             return put(out, after_point, b"\n");
         }
         NearestAnswer::Refused(e) => {

@@ -14,7 +14,8 @@ use refusals::Verdict;
 fn answered(answer: ListAnswer) {
     match answer {
         ListAnswer::Found(list) => {
-            printing::found(list.nodes);
+            printing::word(b" found");
+            printing::count(list.nodes);
             printing::count(list.points as u64);
         }
         ListAnswer::Refused(e) => printing::verdict(Verdict::Refuse(e)),

@@ -48,10 +48,11 @@ pub fn count(n: u64) {
     io::print_decimal(1, n);
 }
 
-// Writes `found` and a search's nodes, with a space before each.
-pub fn found(nodes: u64) {
+// Writes `found`, a nearest search's nodes and its point's distance, with a space before each.
+pub fn found(nodes: u64, distance: f64) {
     word(b" found");
     count(nodes);
+    double(distance);
 }
 
 // Writes a space and the 16 hexadecimal digits of x's bits, or `nan`.

@@ -37,7 +37,8 @@ fn widened_search(
     nearest_within(weights, mu, target, out, wide, budget, none)
 }
 
-// Finds the nearest integer vector inside the widened radius, a candidate inside the radius being known.
+// Finds the nearest integer vector inside the widened radius, a candidate inside the radius being known; tells the nodes
+// and the point's distance.
 //
 // Refused: 2 to 9, the table and the call; 10 to 13, the candidate and the radius; 15, the budget ran out (nodes, the
 // radius that stood); 17, nothing was found (the widened radius). A refusal leaves out as it was.
@@ -96,7 +97,8 @@ fn ml_radius(weights: &[f64], mu: &[f64], target: &[f64]) -> f64
     plane_total(weights, mu, target, &mut coefficients[..n], &mut point[..n])
 }
 
-// Finds the nearest integer vector. The candidate is the nearest-plane point, and the radius is that point's distance.
+// Finds the nearest integer vector; tells the nodes and the point's distance. The candidate is the nearest-plane point,
+// and the radius is that point's distance.
 //
 // Refused: 2 to 7 and 9, the table and the call; 11 and 13, the candidate's distance; 15, the budget ran out (nodes, the
 // radius that stood); 17, nothing was found (the widened radius). A refusal leaves out as it was.

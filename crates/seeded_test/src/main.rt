@@ -1,7 +1,8 @@
 // What `nearest_seeded` and `nearest_ml` answer and leave in the slice that they are lent. Each line of the output has
-// the call, a case's name, then `found` and the node count, or the refusal's number with what it carries in brackets,
-// then the slice at exit, in square brackets. Before the call it holds what its case gives it, both ends of i64 among
-// it, and so it must after a refusal. Where a case parts the specification from another reading, its comment says so.
+// the call, a case's name, then `found`, the node count and the point's distance, as the 16 hexadecimal digits of its
+// bits, or the refusal's number with what it carries in brackets, then the slice at exit, in square brackets. Before
+// the call it holds what its case gives it, both ends of i64 among it, and so it must after a refusal. Where a case
+// parts the specification from another reading, its comment says so.
 //
 // The expected output of every call that the Rust knows is the Rust's: this program compiled as Rust, with the oracle
 // in the place of the crate `seeded` (tools/oracle/examples/seeded_test.rs). The Rust's InvalidRadius is 8, 11, 12 or
@@ -19,7 +20,7 @@ const SECOND_LARGEST: f64 = 1.7976931348623155e308;
 
 fn answer(a: NearestAnswer, out: &[i64]) {
     match a {
-        NearestAnswer::Found(point) => printing::found(point.nodes),
+        NearestAnswer::Found(point) => printing::found(point.nodes, point.distance),
         NearestAnswer::Refused(e) => printing::verdict(Verdict::Refuse(e)),
     }
     printing::integers(out);
@@ -247,6 +248,19 @@ fn widening_for_a_node() {
         1.9096599999999997,
         100,
     );
+}
+
+// ---- the distance
+
+// The candidate is the nearest-plane point, at about 0.544. Other readings: the radius, widened or not; the candidate's
+// distance; the terms summed from level 0 upward; a centre or a term in another order or rounded otherwise. Each gives
+// other bits here.
+fn found_distances() {
+    let weights = [1.7, 0.4, 2.1];
+    let entries = [-0.7, 0.3, 0.9];
+    let target = [-1.4, 0.9, 1.7];
+    seeded_three(b"distance:", weights, entries, target, [-1, 1, 2], 0.6, 100);
+    ml_three(b"distance:", weights, entries, target, 100);
 }
 
 // ---- the widened radius: with budget 0 it is what refusal 15 carries
@@ -524,7 +538,8 @@ fn empty(name: &[u8], out: &mut [i64], candidate: &[i64], radius: f64, budget: u
     seeded(name, &none, &none, &none, out, candidate, radius, budget);
 }
 
-// At n = 0 nothing widens the radius, so the largest passes too. The refused are also wrong for a later refusal.
+// At n = 0 nothing widens the radius, so the largest passes too, and the distance is plus zero at any radius. The
+// refused are also wrong for a later refusal.
 fn empties() {
     let none = [0.0; 0];
     let mu = [0.0; 1];
@@ -534,6 +549,7 @@ fn empties() {
     let mut place = [i64::MIN];
     empty(b"A:", &mut no_places, &no_point, 0.0, 0);
     empty(b"A, -0:", &mut no_places, &no_point, -0.0, 0);
+    empty(b"A, 4:", &mut no_places, &no_point, 4.0, 0);
     empty(b"A, largest:", &mut no_places, &no_point, LARGEST, MOST);
     empty(b"A, 6:", &mut place, &point, -1.0, EVERY);
     empty(b"A, 8:", &mut no_places, &point, -1.0, EVERY);
@@ -698,6 +714,7 @@ fn main() {
     widening();
     widening_for_a_point();
     widening_for_a_node();
+    found_distances();
     widened();
     rounded();
     ml_small();

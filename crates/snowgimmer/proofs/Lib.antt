@@ -1,3 +1,4 @@
 -- Laws that the proofs of the functions cite.
 pub mod Distances
+pub mod DistanceAgrees
 pub mod Slices

@@ -1,4 +1,4 @@
 -- What the contracts cite.
 pub mod Reports
-pub mod Told
 pub mod Distance
+pub mod Told

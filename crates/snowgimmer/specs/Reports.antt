@@ -25,9 +25,9 @@ toldAt number a b x = told number (atExit a) (atExit b) (atExit x)
 abbrev pub ofRefusal : Refusal → Report
 ofRefusal e = let c = carriedBy e in told (c .number) (c .first) (c .second) (c .real)
 
--- nearest, nearest_seeded and nearest_ml: the nodes
+-- nearest, nearest_seeded and nearest_ml: the nodes, and the distance of the point
 abbrev pub ofNearest : Answer C.NearestPoint → Report
-ofNearest (found a) = told 0 (a .nodes) 0 plusZero
+ofNearest (found a) = told 0 (a .nodes) 0 (a .distance)
 ofNearest (refused e) = ofRefusal e
 
 -- list: the nodes, and how many points

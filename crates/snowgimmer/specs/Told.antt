@@ -2,10 +2,10 @@
 -- The answer that the promises speak of is the definition's, which r tells and the slices hold. Definitions only.
 use mathlib.Core.Path.{_≡_}
 use mathlib.Core.List.{List}
-use Prim.Native.Nat.{ℕ}
+use Prim.Native.Nat.{ℕ, _≤_}
 use lib.IntN.{ℤ}
 use lib.Ieee.{Float}
-use Rattle.definitions.specs.Table.{Table}
+use Rattle.definitions.specs.Table.{Table, dimension}
 use Rattle.definitions.specs.Calls as C
 use Rattle.definitions.specs.Reference.{changeReference, changeOutput}
 use Rattle.theorems.specs.Promises.{NearestPromises, SeededPromises, MlPromises, ListPromises, RoundPromises, PlanePromises}
@@ -13,21 +13,29 @@ use Rattle.theorems.specs.Reference.{ReferencePromises}
 use Rattle.listing.specs.View.{countsOf}
 use Rattle.snowgimmer.specs.declared.report.Report.{Report}
 use Rattle.snowgimmer.specs.Reports.{ofNearest, ofCounts, ofVerdict}
+use Rattle.snowgimmer.specs.Distance.{pointDistance}
+
+-- the call `distance` gives, of the point written, the distance that a nearest search told
+abbrev pub DistanceAgrees : Table → List Float → C.Answer C.NearestPoint → List ℤ → Type 0
+DistanceAgrees t target answer out′ = dimension t ≤ 23 → (a : C.NearestPoint) → answer ≡ C.found a → pointDistance t target out′ ≡ C.found (a .distance)
 
 pub record NearestTold (t : Table) (target : List Float) (out : List ℤ) (radius : Float) (budget : ℕ) (r : Report) (out′ : List ℤ) : Type 0 where
   pub tells : r ≡ ofNearest (C.nearest t target out radius budget)
   pub writes : out′ ≡ C.nearestOutput (C.nearest t target out radius budget) out
   pub promises : NearestPromises t target out radius budget (C.nearest t target out radius budget) out′
+  pub distance-agrees : DistanceAgrees t target (C.nearest t target out radius budget) out′
 
 pub record SeededTold (t : Table) (target : List Float) (out candidate : List ℤ) (radius : Float) (budget : ℕ) (r : Report) (out′ : List ℤ) : Type 0 where
   pub tells : r ≡ ofNearest (C.nearestSeeded t target out candidate radius budget)
   pub writes : out′ ≡ C.nearestOutput (C.nearestSeeded t target out candidate radius budget) out
   pub promises : SeededPromises t target out candidate radius budget (C.nearestSeeded t target out candidate radius budget) out′
+  pub distance-agrees : DistanceAgrees t target (C.nearestSeeded t target out candidate radius budget) out′
 
 pub record MlTold (t : Table) (target : List Float) (out : List ℤ) (budget : ℕ) (r : Report) (out′ : List ℤ) : Type 0 where
   pub tells : r ≡ ofNearest (C.nearestMl t target out budget)
   pub writes : out′ ≡ C.nearestOutput (C.nearestMl t target out budget) out
   pub promises : MlPromises t target out budget (C.nearestMl t target out budget) out′
+  pub distance-agrees : DistanceAgrees t target (C.nearestMl t target out budget) out′
 
 pub record ListTold (t : Table) (target distances : List Float) (points : List ℤ) (radius : Float) (budget : ℕ) (r : Report) (distances′ : List Float) (points′ : List ℤ) : Type 0 where
   pub tells : r ≡ ofCounts (countsOf (C.list t target distances points radius budget))

@@ -34,7 +34,7 @@ pub extern "C" fn snowgimmer_round_away(x: f64) -> i64
     round_away(x)
 }
 
-// The nearest integer vector inside the radius goes to out; first is the number of nodes.
+// The nearest integer vector inside the radius goes to out; first is the number of nodes, real the vector's distance.
 //
 // Refused: 2 to 9, 15 and 16.
 #[no_mangle]
@@ -56,7 +56,7 @@ pub extern "C" fn snowgimmer_nearest(
 }
 
 // The nearest integer vector inside the widened radius goes to out, a candidate inside the radius being known; first is the
-// number of nodes.
+// number of nodes, real the vector's distance.
 //
 // Refused: 2 to 13, 15 and 17.
 #[no_mangle]
@@ -79,7 +79,8 @@ pub extern "C" fn snowgimmer_nearest_seeded(
     stored(nearest_report(answer), first, second, real)
 }
 
-// The nearest integer vector goes to out, from the nearest-plane point as candidate; first is the number of nodes.
+// The nearest integer vector goes to out, from the nearest-plane point as candidate; first is the number of nodes, real the
+// vector's distance.
 //
 // Refused: 2 to 7, 9, 11, 13, 15 and 17.
 #[no_mangle]

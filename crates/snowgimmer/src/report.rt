@@ -45,12 +45,12 @@ fn refusal_report(e: Refusal) -> Report
     told(n.number, n.first, n.second, n.real)
 }
 
-// The report of a nearest search: its nodes.
+// The report of a nearest search: its nodes, and the distance of its point.
 pub fn nearest_report(answer: NearestAnswer) -> Report
     ensures { λ r. ⌜ ((out : List ℤ) → r ≡ R.ofNearest (N.nearestAnswer answer out)) ⌝ }
 {
     match answer {
-        NearestAnswer::Found(p) => return told(0, p.nodes, 0, 0.0),
+        NearestAnswer::Found(p) => return told(0, p.nodes, 0, p.distance),
         NearestAnswer::Refused(e) => return refusal_report(e),
     }
 }

@@ -1,5 +1,6 @@
 -- Counting in lists of integers and of vectors: a list in which nothing stands more often than in another is no longer than it, so two lists that hold just the vectors of a test, each once, are equally long. Assumes nothing.
 use mathlib.Core.Path.{_≡_, refl, sym, ap, _∙_, subst}
+use mathlib.Core.Logic.{_⊎_, inl, inr}
 use Prim.Native.Nat.{ℕ, suc, _+_, _*_, _≤_, _<_, zero-le, suc-le-suc}
 use native.Mathlib.Nat.{add-left-comm, le-trans, le-of-eq, le-antisymm, lt-of-lt-of-le, not-suc-le-zero, zero-add, add-assoc, zero-mul, one-mul, add-mul}
 use native.Mathlib.Omega.{arith}
@@ -12,7 +13,7 @@ use lib.Ieee.Fits.{and-i, and-l, and-r}
 use Rattle.theorems.specs.Counting.{eqZ, sameVector, tally, count, EachOnce}
 use Rattle.theorems.specs.Children.{times}
 use Rattle.theorems.specs.Prefixes.{joined}
-use Rattle.theorems.proofs.Booleans.{of-true, to-true, to-false}
+use Rattle.theorems.proofs.Booleans.{of-true, to-true, to-false, tally-true}
 
 -- ---- equality of integers and of vectors by their tests
 pub eqZ→eq : (a b : ℤ) → T (eqZ a b) → a ≡ b
@@ -48,6 +49,17 @@ times-other z y ys n = ap (λ (b : Bool). tally b + times z ys) (to-false (eqZ z
 -- ---- a vector at the head of a list, in two lists together, in none
 pub count-other : (x y : List ℤ) (ys : List (List ℤ)) → (x ≡ y → ⊥) → count x (y ∷ ys) ≡ count x ys
 count-other x y ys n = ap (λ (b : Bool). tally b + count x ys) (to-false (sameVector x y) (λ h. n (sameVector→eq x y h))) ∙ zero-add (count x ys)
+
+pub count-head : (y : List ℤ) (ys : List (List ℤ)) → 0 < count y (y ∷ ys)
+count-head y ys = subst (λ (k : ℕ). 0 < k + count y ys) (sym (tally-true (sameVector y y) (sameVector-refl y))) (omega arith)
+
+-- what stands in a list is its head or stands in the rest
+pub count-cases : (x y : List ℤ) (ys : List (List ℤ)) → 0 < count x (y ∷ ys) → (x ≡ y) ⊎ (0 < count x ys)
+count-cases x y ys = go (sameVector x y) refl
+  where
+    go : (b : Bool) → sameVector x y ≡ b → 0 < tally b + count x ys → (x ≡ y) ⊎ (0 < count x ys)
+    go true e h = inl (sameVector→eq x y (of-true e))
+    go false e h = inr (lt-of-lt-of-le h (le-of-eq (zero-add (count x ys))))
 
 pub count-append : (x : List ℤ) (a b : List (List ℤ)) → count x (a ++ b) ≡ count x a + count x b
 count-append x [] b = sym (zero-add (count x b))
@@ -113,13 +125,9 @@ remove-count x y (q ∷ qs) h = go (sameVector x q) refl h (remove-count x y qs)
 pub no-longer : (a b : List (List ℤ)) → ((x : List ℤ) → count x a ≤ count x b) → length a ≤ length b
 no-longer [] b h = zero-le
 no-longer (y ∷ a) b h =
-    let here : 0 < count y b = lt-of-lt-of-le (one (sameVector y y) (sameVector-refl y)) (h y) in
+    let here : 0 < count y b = lt-of-lt-of-le (count-head y a) (h y) in
     le-trans (suc-le-suc (no-longer a (remove y b) (λ x. cut (tally (sameVector x y)) (count x a) (count x (remove y b)) (le-trans (h x) (le-of-eq (remove-count y x b here)))))) (le-of-eq (sym (remove-length y b here)))
   where
-    one : (v : Bool) → T v → 0 < tally v + count y a
-    one true t = omega arith
-    one false t = absurd t
-
     cut : (i j k : ℕ) → i + j ≤ i + k → j ≤ k
     cut i j k h = omega arith
 

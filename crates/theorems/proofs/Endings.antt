@@ -19,14 +19,14 @@ exhausted-same k R m S p =
     ap (λ (i : ℕ). exhausted i R) a ∙ ap (exhausted m) b
 
 module _ (none : Refusal) where
-  -- a point found is the best with which the walk ended
-  pub point-walked : (w : Walked Best) (a : NearestPoint) → endOfNearest none w ≡ found a → (S : Float) × (w ≡ ended (best (a .point)) S (a .nodes))
+  -- a point found is the best with which the walk ended, and its distance the radius that stood
+  pub point-walked : (w : Walked Best) (a : NearestPoint) → endOfNearest none w ≡ found a → w ≡ ended (best (a .point)) (a .distance) (a .nodes)
   point-walked (exhausted m R) a e = absurd (found≢refused (sym e ∙ end-exhausted none m R))
   point-walked (ended no-best R m) a e = absurd (found≢refused (sym e ∙ end-nothing none R m))
   point-walked (ended (best zs) R m) a e =
-      let q : found (record { nodes = m; point = zs }) ≡ found a = sym (end-point none zs R m) ∙ e in
-      let r : record { nodes = m; point = zs } ≡ a = cc in
-      (R, ap (λ (b : NearestPoint). ended (best (b .point)) R (b .nodes)) r)
+      let q : found (record { nodes = m; distance = R; point = zs }) ≡ found a = sym (end-point none zs R m) ∙ e in
+      let r : record { nodes = m; distance = R; point = zs } ≡ a = cc in
+      ap (λ (b : NearestPoint). ended (best (b .point)) (b .distance) (b .nodes)) r
 
   number-same : {d e : Refusal} → d ≡ e → d .number ≡ e .number
   number-same p = ap (λ (r : Refusal). r .number) p

@@ -1,4 +1,4 @@
--- Promise 3: a call that is the end of its walk gives what the walk comes to, its point and count or its refusal and values, and leaves its slices so. Assumes nothing.
+-- Promise 3: a call that is the end of its walk gives what the walk comes to, its point, count and distance or its refusal and values, and leaves its slices so. Assumes nothing.
 use mathlib.Core.Path.{_≡_, ap, _∙_}
 use mathlib.Core.List.{List}
 use borrow.Author.Tests.{lt-ltb, le-ltb}
@@ -16,7 +16,7 @@ use Rattle.theorems.specs.Answers.{EndsAsWalk, EndsAsListWalk}
 pub ends-as-walk : (none : Refusal) (w : Walked Best) (out : List ℤ) (answer : Answer NearestPoint) → answer ≡ endOfNearest none w → EndsAsWalk none w out answer (nearestOutput answer out)
 ends-as-walk none w out answer is =
     record {
-      point = λ z S m e. let a = is ∙ ap (endOfNearest none) e ∙ end-point none z S m in (a, output a ∙ output-found (record { nodes = m; point = z }) out);
+      point = λ z S m e. let a = is ∙ ap (endOfNearest none) e ∙ end-point none z S m in (a, output a ∙ output-found (record { nodes = m; distance = S; point = z }) out);
       nothing = λ S m e. let a = is ∙ ap (endOfNearest none) e ∙ end-nothing none S m in (a, output a ∙ output-refused none out);
       exhaustion = λ m S e. let a = is ∙ ap (endOfNearest none) e ∙ end-exhausted none m S in (a, output a ∙ output-refused (budgetExhausted m S) out);
     }

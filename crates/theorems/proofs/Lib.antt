@@ -28,6 +28,7 @@ pub mod Seeded
 pub mod Listing
 pub mod Orders
 pub mod Sorting
+pub mod FirstListed
 -- ---- the checks
 pub mod FirstFaults
 pub mod FirstRefusal
@@ -51,3 +52,5 @@ pub mod SameCalls
 pub mod EncodedSections
 pub mod EncodedRows
 pub mod EncodedJobs
+pub mod JobDoubles
+pub mod JobCalls

@@ -35,7 +35,7 @@ use Rattle.theorems.proofs.FirstRefusal.{decision, first-least, numbers
 use Rattle.theorems.proofs.RefusedCalls.{demand-1, verdict-demand-1, slices-unchanged, list-own-numbers}
 use Rattle.theorems.proofs.CallNumbers.{nearest-numbered, nearest-indices, seeded-numbered, seeded-indices, ml-numbered, ml-indices, list-numbered, list-indices, round-numbered, round-index, plane-numbered, plane-indices}
 use Rattle.theorems.proofs.EndsAsWalk.{ends-as-list-walk}
-use Rattle.theorems.proofs.SearchCalls.{Ready, SearchCall, refused-above-15, search-promises, nothing-exactly}
+use Rattle.theorems.proofs.SearchCalls.{Ready, SearchCall, refused-above-15, found-first, search-promises, nothing-exactly}
 use Rattle.theorems.proofs.ListCall.{list-found, list-numbers}
 
 -- ---- the checks passed, on a table and a target of doubles
@@ -44,6 +44,44 @@ limits-of-search t target out d p = limits-of-checks largestDimension t target (
 
 ready-at : (t : Table) (target : List Float) → Limits t target → (R : Float) → T (fits binary64 R) → radiusCheck R ≡ pass → Ready t target R
 ready-at t target limits R d q = record { limits = limits; finite = record { fit = d; fin = held (finite R) (radius-passed R q .0) }; plus = failed (lt R _) (radius-passed R q .1) }
+
+-- ---- list
+module _ (t : Table) (target distances : List Float) (points : List ℤ) (R : Float) (budget : ℕ) (doubles : T (ofDoubles t target)) (double : T (fits binary64 R)) where
+  abbrev answer : Answer ListAnswer
+  answer = list t target distances points R budget
+
+  abbrev end : Answer ListAnswer
+  end = endOfList (length distances) (listWalk t target (handedOn R) budget)
+
+  is : answer ≡ after (firstRefusal (listCallChecks t target distances points R budget)) end
+  is = list-is t target distances points R budget ∙ ap (λ (v : Verdict). after v end) (list-checks-are t target distances points R budget)
+
+  list-ready : NoneFits (listCallChecks t target distances points R budget) → Ready t target (handedOn R)
+  list-ready f =
+      let p = list-passed largestDimension t target distances points R budget (list-checks-are t target distances points R budget ∙ none-passes (listCallChecks t target distances points R budget) f) in
+      ready-at t target (limits-of-checks largestDimension t target (lit≤ tt) doubles (p .checked) (sym (p .shape .target-length)) (p .targets)) R double (p .radius)
+
+  by-walk : NoneFits (listCallChecks t target distances points R budget) → answer ≡ end
+  by-walk f = is ∙ after-pass (firstRefusal (listCallChecks t target distances points R budget)) end (none-passes (listCallChecks t target distances points R budget) f)
+
+  demand : Demand1 (listCallChecks t target distances points R budget) 15 18 answer ((listDistances answer distances ≡ distances) × (listPoints answer points ≡ points))
+  demand = demand-1 (numbers-below 15 (list-numbered t target distances points R budget) tt) (le-refl 15) (lit≤ tt) (list-own-numbers _ _) is (slices-unchanged answer distances points) (decision (listCallChecks t target distances points R budget))
+
+  listed-ordered : (a : ListAnswer) → answer ≡ found a → Listed t target (handedOn R) (a .points) (a .nodes) × StrictlyOrdered (a .points)
+  listed-ordered a q = let f = demand .answers .1 (inl (a, q)) in list-found (list-ready f) budget (length distances) (by-walk f) a q
+
+  pub list-promises : ListPromises t target distances points R budget answer (listDistances answer distances) (listPoints answer points)
+  list-promises =
+      record {
+        demand-1 = demand;
+        least-number = first-least 0 (list-numbered t target distances points R budget) tt;
+        first-indices = list-indices t target distances points R budget;
+        ends = λ f. ends-as-list-walk (listWalk t target (handedOn R) budget) distances points answer (by-walk f);
+        exact = λ small a q. listed-ordered a q .0;
+        order = λ small a q. listed-ordered a q .1;
+        slices = λ a q. (ap (λ (x : Answer ListAnswer). listDistances x distances) q ∙ distances-found a distances, ap (λ (x : Answer ListAnswer). listPoints x points) q ∙ points-found a points);
+        numbers = λ small f. list-numbers (list-ready f) budget (length distances) (by-walk f);
+      }
 
 -- ---- nearest
 module _ (t : Table) (target : List Float) (out : List ℤ) (R : Float) (budget : ℕ) (doubles : T (ofDoubles t target)) (double : T (fits binary64 R)) where
@@ -60,7 +98,14 @@ module _ (t : Table) (target : List Float) (out : List ℤ) (R : Float) (budget 
   }
 
   pub nearest-promises : NearestPromises t target out R budget (nearest t target out R budget) (nearestOutput (nearest t target out R budget) out)
-  nearest-promises = record { search = search-promises nearest-call out; gives-16 = λ small. nothing-exactly nearest-call }
+  nearest-promises =
+      record {
+        search = search-promises nearest-call out;
+        gives-16 = λ small. nothing-exactly nearest-call;
+        list-first = λ small a q distances points b l e.
+            let (listed, ordered) = listed-ordered t target distances points R b doubles double l e in
+            found-first nearest-call a q (l .points) (l .nodes) listed ordered;
+      }
 
 -- ---- a search at the widened radius
 -- the radius before and after the widening
@@ -149,44 +194,6 @@ module _ (t : Table) (target : List Float) (out : List ℤ) (budget : ℕ) (doub
         search = search-promises ml-call out;
         never-17 = λ small. never-17 ml-call ml-start (nearestPlane t target .point) ml-candidate;
         above = λ some small. above ml-call ml-start (nearestPlane t target .point) ml-candidate some;
-      }
-
--- ---- list
-module _ (t : Table) (target distances : List Float) (points : List ℤ) (R : Float) (budget : ℕ) (doubles : T (ofDoubles t target)) (double : T (fits binary64 R)) where
-  abbrev answer : Answer ListAnswer
-  answer = list t target distances points R budget
-
-  abbrev end : Answer ListAnswer
-  end = endOfList (length distances) (listWalk t target (handedOn R) budget)
-
-  is : answer ≡ after (firstRefusal (listCallChecks t target distances points R budget)) end
-  is = list-is t target distances points R budget ∙ ap (λ (v : Verdict). after v end) (list-checks-are t target distances points R budget)
-
-  list-ready : NoneFits (listCallChecks t target distances points R budget) → Ready t target (handedOn R)
-  list-ready f =
-      let p = list-passed largestDimension t target distances points R budget (list-checks-are t target distances points R budget ∙ none-passes (listCallChecks t target distances points R budget) f) in
-      ready-at t target (limits-of-checks largestDimension t target (lit≤ tt) doubles (p .checked) (sym (p .shape .target-length)) (p .targets)) R double (p .radius)
-
-  by-walk : NoneFits (listCallChecks t target distances points R budget) → answer ≡ end
-  by-walk f = is ∙ after-pass (firstRefusal (listCallChecks t target distances points R budget)) end (none-passes (listCallChecks t target distances points R budget) f)
-
-  demand : Demand1 (listCallChecks t target distances points R budget) 15 18 answer ((listDistances answer distances ≡ distances) × (listPoints answer points ≡ points))
-  demand = demand-1 (numbers-below 15 (list-numbered t target distances points R budget) tt) (le-refl 15) (lit≤ tt) (list-own-numbers _ _) is (slices-unchanged answer distances points) (decision (listCallChecks t target distances points R budget))
-
-  all : (a : ListAnswer) → answer ≡ found a → Listed t target (handedOn R) (a .points) (a .nodes) × StrictlyOrdered (a .points)
-  all a q = let f = demand .answers .1 (inl (a, q)) in list-found (list-ready f) budget (length distances) (by-walk f) a q
-
-  pub list-promises : ListPromises t target distances points R budget answer (listDistances answer distances) (listPoints answer points)
-  list-promises =
-      record {
-        demand-1 = demand;
-        least-number = first-least 0 (list-numbered t target distances points R budget) tt;
-        first-indices = list-indices t target distances points R budget;
-        ends = λ f. ends-as-list-walk (listWalk t target (handedOn R) budget) distances points answer (by-walk f);
-        exact = λ small a q. all a q .0;
-        order = λ small a q. all a q .1;
-        slices = λ a q. (ap (λ (x : Answer ListAnswer). listDistances x distances) q ∙ distances-found a distances, ap (λ (x : Answer ListAnswer). listPoints x points) q ∙ points-found a points);
-        numbers = λ small f. list-numbers (list-ready f) budget (length distances) (by-walk f);
       }
 
 -- ---- round, nearest_plane

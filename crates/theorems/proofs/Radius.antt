@@ -20,13 +20,13 @@ use Rattle.definitions.specs.Admitted.{allI64, firstTest, secondTest, passes}
 use Rattle.definitions.specs.Walk.{ended}
 use Rattle.definitions.specs.Nearest.{Best, no-best, nearestWalk}
 use Rattle.definitions.proofs.Admissions.{allI64-nil, passes-nil}
-use Rattle.theorems.specs.Counting.{eqZ, sameVector, tally, count}
+use Rattle.theorems.specs.Counting.{eqZ, tally, count}
 use Rattle.theorems.specs.Children.{times}
 use Rattle.theorems.specs.Unbudgeted.{Progress, walkAll, nearer, nearestAll}
 use Rattle.theorems.specs.Prefixes.{joined, levelChildren, admittedBelow, admittedVectors}
 use Rattle.theorems.proofs.Booleans.{of-true, tally-some}
 use Rattle.theorems.proofs.Limits.{Limits}
-use Rattle.theorems.proofs.Counts.{sameVector→eq, times-same, Each, each-append}
+use Rattle.theorems.proofs.Counts.{count-cases, times-same, Each, each-append}
 use Rattle.theorems.proofs.Paths.{opens}
 use Rattle.theorems.proofs.Prefixes.{admittedFrom, admitted-leaf, admitted-level, level-once, passes-child, all-child}
 use Rattle.theorems.proofs.Covered.{Covered}
@@ -46,13 +46,12 @@ module _ (t : Table) (target : List Float) where
 
   least-member : (m : ℕ) (x : List ℤ) (xs : List (List ℤ)) → 0 < count x xs → leastOf m xs ≤ ord binary64 (distance t target x)
   least-member m x [] h = absurd (lt-irrefl 0 h)
-  least-member m x (y ∷ xs) h = go (sameVector x y) refl h (λ k. least-member (min m (ord binary64 (distance t target y))) x xs k)
-    where
-      go : (b : Bool) → sameVector x y ≡ b → 0 < tally b + count x xs → (0 < count x xs → leastOf (min m (ord binary64 (distance t target y))) xs ≤ ord binary64 (distance t target x)) → leastOf (min m (ord binary64 (distance t target y))) xs ≤ ord binary64 (distance t target x)
-      go true q k r =
-          subst (λ (v : List ℤ). leastOf (min m (ord binary64 (distance t target y))) xs ≤ ord binary64 (distance t target v)) (sym (sameVector→eq x y (of-true q)))
-          (le-trans (least-start (min m (ord binary64 (distance t target y))) xs) (min-le-right m (ord binary64 (distance t target y))))
-      go false q k r = r (omega arith)
+  least-member m x (y ∷ xs) h =
+      elim (count-cases x y xs h) [
+        | inl e ↦ subst (λ (v : List ℤ). leastOf (min m (ord binary64 (distance t target y))) xs ≤ ord binary64 (distance t target v)) (sym e)
+            (le-trans (least-start (min m (ord binary64 (distance t target y))) xs) (min-le-right m (ord binary64 (distance t target y))))
+        | inr k ↦ least-member (min m (ord binary64 (distance t target y))) x xs k
+      ]
 
   least-above : (k m : ℕ) (xs : List (List ℤ)) → k ≤ m → Each (λ x. k ≤ ord binary64 (distance t target x)) xs → k ≤ leastOf m xs
   least-above k m [] h e = h

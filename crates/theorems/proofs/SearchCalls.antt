@@ -2,7 +2,7 @@
 use mathlib.Core.Path.{_≡_, refl, sym, ap, _∙_, subst}
 use mathlib.Core.Logic.{_↔_, inl}
 use mathlib.Core.Bool.{not}
-use mathlib.Core.List.{List}
+use mathlib.Core.List.{List, []}
 use Prim.Native.Nat.{ℕ, _≤_, _<_}
 use native.Mathlib.Nat.{le-refl, le-trans, le-of-eq, le-of-lt}
 use lib.Dec.{T}
@@ -10,25 +10,32 @@ use lib.ListN.{length}
 use lib.IntN.{ℤ}
 use lib.Ieee.{Float, binary64, lt}
 use Rattle.rounding.specs.Kinds.{Finite}
-use Rattle.definitions.specs.Table.{Table, plusZero}
+use Rattle.definitions.specs.Table.{Table, dimension, plusZero}
+use Rattle.definitions.specs.Distance.{distance, hasDistance}
 use Rattle.definitions.specs.Admitted.{admitted, opened}
 use Rattle.definitions.specs.Walk.{Walked, ended}
 use Rattle.definitions.specs.Nearest.{Best, no-best, best, nearestWalk}
+use Rattle.definitions.specs.Listing.{ListPoint}
 use Rattle.definitions.specs.Refusals.{Refusal}
 use Rattle.definitions.specs.Checks.{Verdict, firstRefusal, targetFault}
 use Rattle.definitions.specs.Calls.{Answer, found, refused, after, NearestPoint, endOfNearest, nearestOutput}
+use Rattle.definitions.proofs.Distances.{partial-nil}
+use Rattle.definitions.proofs.Admissions.{vector-empty}
 use Rattle.definitions.proofs.Answers.{after-pass, end-nothing, output-found}
 use Rattle.theorems.specs.Counting.{NumberOf}
 use Rattle.theorems.specs.Prefixes.{openedPrefixes}
 use Rattle.theorems.specs.Refusals.{Fits, NoneFits, FirstIsLeast, FirstIndices}
-use Rattle.theorems.specs.Answers.{Nearest, Demand1}
+use Rattle.theorems.specs.Ordered.{BeginsAt, StrictlyOrdered}
+use Rattle.theorems.specs.Answers.{Nearest, Listed, Demand1}
 use Rattle.theorems.specs.Promises.{NearestNodes, SearchPromises, NothingToFind}
 use Rattle.theorems.proofs.Limits.{Limits}
 use Rattle.theorems.proofs.Counts.{same-length}
 use Rattle.theorems.proofs.Prefixes.{opened-once}
 use Rattle.theorems.proofs.Budget.{nearest-exhausted}
-use Rattle.theorems.proofs.Least.{nearest-point, nearest-nodes, nearest-enough, outside-exactly}
+use Rattle.theorems.proofs.Sums.{admitted-distance}
+use Rattle.theorems.proofs.Least.{nearest-point, nearest-distance, nearest-nodes, nearest-enough, outside-exactly}
 use Rattle.theorems.proofs.Standing.{exhausted-radius}
+use Rattle.theorems.proofs.FirstListed.{first-listed}
 use Rattle.theorems.proofs.FirstRefusal.{decision, none-passes}
 use Rattle.theorems.proofs.RefusedCalls.{demand-1, own-refusal, output-unchanged, nearest-own-numbers}
 use Rattle.theorems.proofs.Endings.{point-walked, refused-nothing, refused-exhausted}
@@ -65,17 +72,39 @@ module _ {checks : List Verdict} {none : Refusal} {t : Table} {target : List Flo
       let f = own-refusal (call .below) (le-refl 15) (le-of-lt (call .above-15)) (nearest-own-numbers none walk) (call .is) e q (le-of-lt h) in
       (f, refused-nothing none walk e h (sym (by-walk f) ∙ q))
 
+  -- promise 1, whatever the output slice holds
+  demand : (out : List ℤ) → Demand1 checks 15 (none .number) answer (nearestOutput answer out ≡ out)
+  demand out = demand-1 (call .below) (le-refl 15) (le-of-lt (call .above-15)) (nearest-own-numbers none walk) (call .is) (output-unchanged answer out) (decision checks)
+
+  -- a point found: what the laws of a walk ask for holds, and the walk ended with that point
+  walked : (a : NearestPoint) → answer ≡ found a → Ready t target R × (walk ≡ ended (best (a .point)) (a .distance) (a .nodes))
+  walked a q = let f = demand [] .answers .1 (inl (a, q)) in (call .ready f, point-walked none walk a (sym (by-walk f) ∙ q))
+
+  found-nearest : (a : NearestPoint) → answer ≡ found a → Nearest t target R (a .point)
+  found-nearest a q = let (r, w) = walked a q in nearest-point t target (r .limits) R (r .finite) (r .plus) budget (a .point) (a .distance) (a .nodes) w
+
+  found-distance : (a : NearestPoint) → answer ≡ found a → a .distance ≡ distance t target (a .point)
+  found-distance a q = let (r, w) = walked a q in sym (nearest-distance t target (r .limits) R (r .finite) (r .plus) budget (a .point) (a .distance) (a .nodes) w)
+
+  zero-distance : dimension t ≡ 0 → (a : NearestPoint) → answer ≡ found a → a .distance ≡ plusZero
+  zero-distance e a q = found-distance a q ∙ ap (distance t target) (vector-empty t (a .point) (found-nearest a q .vector) e) ∙ partial-nil t target
+
+  -- a list of the vectors admitted at R begins at its distance
+  pub found-first : (a : NearestPoint) → answer ≡ found a → (ps : List ListPoint) (m : ℕ) → Listed t target R ps m → StrictlyOrdered ps → BeginsAt (a .distance) ps
+  found-first a q ps m l s = subst (λ (d : Float). BeginsAt d ps) (sym (found-distance a q)) (first-listed t target (walked a q .0 .limits) R (a .point) (found-nearest a q) ps m l s)
+
   module _ (out : List ℤ) where
-    demand : Demand1 checks 15 (none .number) answer (nearestOutput answer out ≡ out)
-    demand = demand-1 (call .below) (le-refl 15) (le-of-lt (call .above-15)) (nearest-own-numbers none walk) (call .is) (output-unchanged answer out) (decision checks)
+    -- out holds a point found
+    written : (a : NearestPoint) → answer ≡ found a → nearestOutput answer out ≡ a .point
+    written a q = ap (λ (x : Answer NearestPoint). nearestOutput x out) q ∙ output-found a out
 
     point : (a : NearestPoint) → answer ≡ found a → Nearest t target R (nearestOutput answer out)
-    point a q =
-        let f = demand .answers .1 (inl (a, q)) in
-        let r = call .ready f in
-        let w = point-walked none walk a (sym (by-walk f) ∙ q) in
-        subst (Nearest t target R) (sym (ap (λ (x : Answer NearestPoint). nearestOutput x out) q ∙ output-found a out))
-        (nearest-point t target (r .limits) R (r .finite) (r .plus) budget (a .point) (w .0) (a .nodes) (w .1))
+    point a q = subst (Nearest t target R) (sym (written a q)) (found-nearest a q)
+
+    own-distance : (a : NearestPoint) → answer ≡ found a → (a .distance ≡ distance t target (nearestOutput answer out)) × T (hasDistance t target (nearestOutput answer out))
+    own-distance a q =
+        let r = walked a q .0 in
+        (found-distance a q ∙ ap (distance t target) (sym (written a q)), admitted-distance t target (r .limits) R (r .finite) (r .plus) (nearestOutput answer out) (point a q .admits))
 
     nodes : NoneFits checks → NearestNodes t target R budget answer
     nodes f =
@@ -84,7 +113,7 @@ module _ {checks : List Verdict} {none : Refusal} {t : Table} {target : List Flo
           prefixes = length (openedPrefixes t target R);
           opened-number = number-of-prefixes r;
           enough-budget = λ h m S q. nearest-enough t target (r .limits) R (r .finite) (r .plus) budget h m S (refused-exhausted none (call .above-15) walk m S (sym (by-walk f) ∙ q));
-          most-nodes = λ a q. let w = point-walked none walk a (sym (by-walk f) ∙ q) in nearest-nodes t target (r .limits) R (r .finite) (r .plus) budget (best (a .point)) (w .0) (a .nodes) (w .1);
+          most-nodes = λ a q. nearest-nodes t target (r .limits) R (r .finite) (r .plus) budget (best (a .point)) (a .distance) (a .nodes) (walked a q .1);
           values-of-15 = λ m S q.
               let w = refused-exhausted none (call .above-15) walk m S (sym (by-walk f) ∙ q) in
               (nearest-exhausted t target R budget m S w, exhausted-radius t target (r .limits) R (r .finite) (r .plus) budget m S w);
@@ -93,11 +122,13 @@ module _ {checks : List Verdict} {none : Refusal} {t : Table} {target : List Flo
     pub search-promises : SearchPromises checks none t target R budget out answer (nearestOutput answer out)
     search-promises =
         record {
-          demand-1 = demand;
+          demand-1 = demand out;
           least-number = call .least;
           first-indices = call .indices;
           ends = λ f. ends-as-walk none walk out answer (by-walk f);
           point = λ small. point;
+          own-distance = λ small. own-distance;
+          zero-distance = zero-distance;
           nodes = λ small. nodes;
         }
 

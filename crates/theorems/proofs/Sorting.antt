@@ -9,21 +9,20 @@ use mathlib.Core.List.{List, [], _∷_}
 use lib.Dec.{T}
 use lib.IntN.{ℤ}
 use lib.Ieee.{Float, binary64, lt}
-use lib.Ieee.Fits.{and-l}
 use Rattle.rounding.specs.Kinds.{NonNegative, Finite}
 use Rattle.definitions.specs.Table.{Table, dimension, plusZero}
 use Rattle.definitions.specs.Distance.{distance}
-use Rattle.definitions.specs.Admitted.{isVector, passes, admitted}
+use Rattle.definitions.specs.Admitted.{isVector, admitted}
 use Rattle.definitions.specs.Walk.{ended}
 use Rattle.definitions.specs.Listing.{ListPoint, listWalk, listedBefore, insert, sorted}
-use Rattle.definitions.proofs.Admissions.{vector-length, admitted-is}
+use Rattle.definitions.proofs.Admissions.{vector-length, admitted-vector}
 use Rattle.definitions.proofs.Leaves.{insert-nil, insert-cons, sorted-nil, sorted-cons}
 use Rattle.theorems.specs.Counting.{sameVector, tally, count}
 use Rattle.theorems.specs.Ordered.{vectorsOf, OwnDistances, BeforeAll, StrictlyOrdered}
 use Rattle.theorems.proofs.Booleans.{tally-most, tally-some, of-true, refuted, to-true}
 use Rattle.theorems.proofs.Limits.{Limits}
 use Rattle.theorems.proofs.Sums.{distance-nonneg}
-use Rattle.theorems.proofs.Counts.{sameVector-refl}
+use Rattle.theorems.proofs.Counts.{sameVector-refl, count-head}
 use Rattle.definitions.proofs.ListedOrder.{Listed as Comparable}
 use Rattle.theorems.proofs.Orders.{listed-trans, listed-total}
 use Rattle.theorems.specs.Answers.{Listed}
@@ -120,28 +119,27 @@ module _ (n : ℕ) where
       alone false t h = absurd t
 
 -- ---- the theorem
-module _ (t : Table) (target : List Float) (limits : Limits t target) (R : Float) (finite : Finite binary64 R) (plus : T (not (lt R plusZero))) where
-  comparable : (ps : List ListPoint) → OwnDistances t target ps → ((x : List ℤ) → 0 < count x (vectorsOf ps) → T (isVector t x)) → Every (Comparable (dimension t)) ps
+module _ (t : Table) (target : List Float) (limits : Limits t target) where
+  -- points whose vectors are of the table are comparable in the list's order
+  pub comparable : (ps : List ListPoint) → OwnDistances t target ps → ((x : List ℤ) → 0 < count x (vectorsOf ps) → T (isVector t x)) → Every (Comparable (dimension t)) ps
   comparable [] o v = tt
   comparable (a ∷ ps) o v =
-      let vector : T (isVector t (a .point)) = v (a .point) (here (sameVector (a .point) (a .point)) (sameVector-refl (a .point))) in (
+      let vector : T (isVector t (a .point)) = v (a .point) (count-head (a .point) (vectorsOf ps)) in (
         record { distance = subst (NonNegative binary64) (sym (o .0)) (distance-nonneg t target limits (a .point) vector); coordinates = vector-length t (a .point) vector },
         comparable ps (o .1) (λ x h. v x (le-trans h (le-add-left (count x (vectorsOf ps)) (tally (sameVector x (a .point)))))),
       )
-    where
-      here : (b : Bool) → T b → 0 < tally b + count (a .point) (vectorsOf ps)
-      here true t = omega arith
-      here false t = absurd t
 
+-- what stands in a list of the admitted vectors is a vector
+pub listed-vector : {t : Table} {target : List Float} {R : Float} {ps : List ListPoint} {m : ℕ} → Listed t target R ps m → (x : List ℤ) → 0 < count x (vectorsOf ps) → T (isVector t x)
+listed-vector {t} {target} {R} l x h = admitted-vector t target R x (tally-some (admitted t target R x) (subst (λ (k : ℕ). 0 < k) (l .exact x) h))
+
+module _ (t : Table) (target : List Float) (limits : Limits t target) (R : Float) (finite : Finite binary64 R) (plus : T (not (lt R plusZero))) where
   -- the list in its order: every admitted vector once, nothing else, each with its own distance, strictly in the list's order
   pub list-sorted : (budget : ℕ) (found : List ListPoint) (S : Float) (m : ℕ) → listWalk t target R budget ≡ ended found S m → Listed t target R (sorted found) m × StrictlyOrdered (sorted found)
   list-sorted budget found S m e =
       let l = list-exact t target limits R finite plus budget found S m e in (
         record { exact = λ x. sorted-count x found ∙ l .exact x; own = sorted-own t target found (l .own); nodes = l .nodes },
         sorted-ordered (dimension t) found
-            (comparable found (l .own) (λ x h. is-vector x (tally-some (admitted t target R x) (subst (λ (k : ℕ). 0 < k) (l .exact x) h))))
+            (comparable t target limits found (l .own) (listed-vector l))
             (λ x. le-trans (le-of-eq (l .exact x)) (tally-most (admitted t target R x))),
       )
-    where
-      is-vector : (x : List ℤ) → T (admitted t target R x) → T (isVector t x)
-      is-vector x h = and-l (isVector t x) (passes t target R x) (subst T (admitted-is t target R x) h)

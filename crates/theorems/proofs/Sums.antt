@@ -10,7 +10,7 @@ use lib.Dec.{T}
 use lib.ListN.{length}
 use lib.IntN.{ℤ}
 use lib.Ieee.{Float, binary64, sub, le, lt}
-use lib.Ieee.Fits.{and-i, and-l, and-r}
+use lib.Ieee.Fits.{and-i, and-r}
 use Rattle.rounding.specs.Integers.{isI64}
 use Rattle.rounding.specs.Kinds.{Finite, NonNegative}
 use Rattle.rounding.proofs.Interface.{number, zero-nonneg, ord, lt→ord, ord→lt, not-lt→le, lt→le, term-nonneg, add-nonneg, finite-below, remaining-fits}
@@ -18,7 +18,7 @@ use Rattle.definitions.specs.Table.{Table, dimension, weight, plusZero}
 use Rattle.definitions.specs.Distance.{center, term, partial, distance, hasDistance}
 use Rattle.definitions.specs.Admitted.{allI64, isVector, firstTest, secondTest, passes, admitted}
 use Rattle.definitions.proofs.Distances.{term-is, partial-nil, partial-step, level-is}
-use Rattle.definitions.proofs.Admissions.{allI64-head, allI64-tail, vector-length, vector-all, firstTest-is, secondTest-is, passes-nil, passes-cons, admitted-is}
+use Rattle.definitions.proofs.Admissions.{allI64-head, allI64-tail, vector-length, vector-all, firstTest-is, secondTest-is, passes-nil, passes-cons, admitted-is, admitted-vector}
 use Rattle.theorems.proofs.Limits.{Limits, center-finite}
 
 module _ (t : Table) (target : List Float) (limits : Limits t target) where
@@ -92,4 +92,4 @@ module _ (t : Table) (target : List Float) (limits : Limits t target) where
       -- so it has one
       pub admitted-distance : (zs : List ℤ) → T (admitted t target R zs) → T (hasDistance t target zs)
       admitted-distance zs h =
-          finite-below (distance-nonneg zs (and-l (isVector t zs) (passes t target R zs) (subst T (admitted-is t target R zs) h))) finite (admitted-within zs h) .fin
+          finite-below (distance-nonneg zs (admitted-vector t target R zs h)) finite (admitted-within zs h) .fin

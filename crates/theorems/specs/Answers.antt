@@ -35,7 +35,7 @@ pub record Listed (t : Table) (target : List Float) (R : Float) (found : List Li
 
 -- the answer and the output slice at exit, for each end of the walk; `none` is the refusal if nothing was found
 pub record EndsAsWalk (none : Refusal) (w : Walked Best) (out : List ℤ) (answer : Answer NearestPoint) (out′ : List ℤ) : Type 0 where
-  pub point : (z : List ℤ) (S : Float) (m : ℕ) → w ≡ ended (best z) S m → (answer ≡ found (record { nodes = m; point = z })) × (out′ ≡ z)
+  pub point : (z : List ℤ) (S : Float) (m : ℕ) → w ≡ ended (best z) S m → (answer ≡ found (record { nodes = m; distance = S; point = z })) × (out′ ≡ z)
   pub nothing : (S : Float) (m : ℕ) → w ≡ ended no-best S m → (answer ≡ refused none) × (out′ ≡ out)
   pub exhaustion : (m : ℕ) (S : Float) → w ≡ exhausted m S → (answer ≡ refused (budgetExhausted m S)) × (out′ ≡ out)
 

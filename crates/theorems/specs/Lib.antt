@@ -11,3 +11,4 @@ pub mod Promises
 pub mod Reference
 pub mod SameRead
 pub mod EncodedJob
+pub mod JobCalls

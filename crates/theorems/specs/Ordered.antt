@@ -1,4 +1,4 @@
--- What is said of a list of points: its vectors, that each point has its own distance, and that they are strictly in the list's order. Definitions only.
+-- What is said of a list of points: its vectors, the distance that it begins at, that each point has its own distance, and that they are strictly in the list's order. Definitions only.
 use mathlib.Core.Path.{_≡_}
 use mathlib.Core.List.{List, [], _∷_}
 use lib.Dec.{T}
@@ -12,6 +12,11 @@ use Rattle.definitions.specs.Listing.{ListPoint, listedBefore}
 abbrev pub vectorsOf : List ListPoint → List (List ℤ)
 vectorsOf [] = []
 vectorsOf (a ∷ rest) = a .point ∷ vectorsOf rest
+
+-- there is a first of these points, and its distance is d
+abbrev pub BeginsAt : Float → List ListPoint → Type 0
+BeginsAt d [] = ⊥
+BeginsAt d (a ∷ rest) = a .distance ≡ d
 
 -- each point has its own distance
 abbrev pub OwnDistances : Table → List Float → List ListPoint → Type 0

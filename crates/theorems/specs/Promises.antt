@@ -9,17 +9,17 @@ use lib.ListN.{length}
 use lib.IntN.{ℤ}
 use lib.Ieee.{Float, lt}
 use Rattle.rounding.specs.Integers.{roundAway}
-use Rattle.definitions.specs.Table.{Table, dimension, largestDimension}
-use Rattle.definitions.specs.Distance.{distance}
+use Rattle.definitions.specs.Table.{Table, dimension, largestDimension, plusZero}
+use Rattle.definitions.specs.Distance.{distance, hasDistance}
 use Rattle.definitions.specs.Admitted.{isVector, admitted, opened}
 use Rattle.definitions.specs.Nearest.{nearestWalk}
 use Rattle.definitions.specs.Listing.{ListPoint, listWalk}
 use Rattle.definitions.specs.Seeds.{nearestPlane, widened}
 use Rattle.definitions.specs.Refusals.{Refusal, budgetExhausted, outsideRadius, noSeed, listFull}
 use Rattle.definitions.specs.Checks.{Verdict, pass, notFinite, targetFault, handedOn}
-use Rattle.definitions.specs.Calls.{Answer, found, refused, NearestPoint, checksOfNearest, checksOfSeeded, mlRadius, checksOfMl, ListAnswer, written, coordinates, checksOfList, checksOfRound, checksOfPlane}
+use Rattle.definitions.specs.Calls.{Answer, found, refused, NearestPoint, checksOfNearest, checksOfSeeded, mlRadius, checksOfMl, ListAnswer, list, written, coordinates, checksOfList, checksOfRound, checksOfPlane}
 use Rattle.theorems.specs.Counting.{NumberOf}
-use Rattle.theorems.specs.Ordered.{StrictlyOrdered}
+use Rattle.theorems.specs.Ordered.{BeginsAt, StrictlyOrdered}
 use Rattle.theorems.specs.Refusals.{NoneFits, FirstIsLeast, NumberIndex, FirstIndices}
 use Rattle.theorems.specs.Answers.{Nearest, Listed, EndsAsWalk, EndsAsListWalk, Demand1, VerdictDemand1}
 
@@ -50,10 +50,14 @@ pub record SearchPromises (checks : List Verdict) (none : Refusal) (t : Table) (
   pub least-number : FirstIsLeast checks
   -- 3, 4, 5 and 7 carry the first index
   pub first-indices : FirstIndices checks t targetFault target
-  -- where no check fits: the same point and count as the walk, or the same refusal and numbers; and out
+  -- where no check fits: the same point, count and distance as the walk, or the same refusal and numbers; and out
   pub ends : NoneFits checks → EndsAsWalk none (nearestWalk t target R budget) out answer out′
   -- a point found: out holds a vector of n signed 64-bit integers, admitted at R, and no such vector has a smaller computed distance
   pub point : dimension t ≤ 23 → (a : NearestPoint) → answer ≡ found a → Nearest t target R out′
+  -- its distance is the computed distance of what out holds, which does not overflow
+  pub own-distance : dimension t ≤ 23 → (a : NearestPoint) → answer ≡ found a → (a .distance ≡ distance t target out′) × T (hasDistance t target out′)
+  -- plus zero at n = 0
+  pub zero-distance : dimension t ≡ 0 → (a : NearestPoint) → answer ≡ found a → a .distance ≡ plusZero
   -- where no check fits: the number of opened prefixes, and what it says of the budget and the count
   pub nodes : dimension t ≤ 23 → NoneFits checks → NearestNodes t target R budget answer
 
@@ -71,6 +75,11 @@ module _ (t : Table) (target : List Float) (out : List ℤ) (radius : Float) (bu
     pub search : let R = handedOn radius in SearchPromises nearestCallChecks (outsideRadius R) t target R budget out answer out′
     -- 16 if and only if no check fits, no vector is admitted, and the budget has a node for every opened prefix
     pub gives-16 : dimension t ≤ 23 → let R = handedOn radius in (answer ≡ refused (outsideRadius R)) ↔ NothingToFind nearestCallChecks t target R budget
+    -- a point found: every list of the same table, target and radius that succeeds, whatever its slices and its budget, begins at the
+    -- point's distance; its first point may be another one that is as near (case I)
+    pub list-first : dimension t ≤ 23 → (a : NearestPoint) → answer ≡ found a →
+        (distances : List Float) (points : List ℤ) (listBudget : ℕ) (l : ListAnswer) → list t target distances points radius listBudget ≡ found l →
+        BeginsAt (a .distance) (l .points)
 
 -- `nearest_seeded`
 module _ (t : Table) (target : List Float) (out candidate : List ℤ) (radius : Float) (budget : ℕ) where

@@ -3,7 +3,7 @@
 use crate::case::{Call, Case};
 use std::fmt;
 
-/// A refusal by the specification's number, with its values in the places that the port's C interface gives them.
+/// A success or a refusal by its number, with the values in the places that the port's C interface gives them.
 #[derive(Clone, Copy, PartialEq, Eq, Debug, Default)]
 pub struct Report {
     /// 0 for a success.
@@ -18,6 +18,12 @@ impl Report {
     #[must_use]
     pub const fn whole(number: u32, first: u64, second: u64) -> Self {
         Self { number, first, second, real: 0 }
+    }
+
+    /// The success of a nearest search: its nodes, and the distance of its point.
+    #[must_use]
+    pub const fn found(nodes: u64, distance: f64) -> Self {
+        Self { number: 0, first: nodes, second: 0, real: distance.to_bits() }
     }
 
     #[must_use]

@@ -74,8 +74,8 @@ fn search_refusal(call: Call, error: DecodeError) -> Report {
 fn rust(case: &Case) -> Result<Answer, DecodeError> {
     let table = Enumerator::from_table(&case.weights, &case.mu);
     let Case { target, places, radius, budget, candidate, .. } = case;
-    let found = |(integers, nodes)| Answer { report: Report::whole(0, nodes, 0), integers, doubles: Vec::new() };
-    let plain = |integers| found((integers, 0));
+    let plain = |integers| Answer { report: Report::default(), integers, doubles: Vec::new() };
+    let found = |(integers, nodes, distance)| Answer { report: Report::found(nodes, distance), ..plain(integers) };
     match case.call {
         Call::Nearest => oracle::nearest(&table, target, *places, *radius, *budget).map(found),
         Call::Seeded => oracle::nearest_seeded(&table, target, *places, candidate, *radius, *budget).map(found),
@@ -114,6 +114,10 @@ fn listed(case: &Case, table: &Enumerator) -> Result<Answer, DecodeError> {
 
 /// The plain reading beside a success of the Rust: where there is one, and how it differs.
 fn second_reading(case: &Case, answer: &Answer) -> Option<String> {
+    let same_distance = |point: &[i64]| {
+        let distance = paper::distance(&case.weights, &case.mu, &case.target, point);
+        distance.to_bits() == answer.report.real
+    };
     let same = match case.call {
         Call::RoundAway | Call::Round => case.target.iter().map(|&x| paper::round_away(x)).eq(answer.integers.clone()),
         Call::Plane => {
@@ -121,10 +125,8 @@ fn second_reading(case: &Case, answer: &Answer) -> Option<String> {
             paper::plane(&case.mu, &mut left) == answer.integers
                 && left.iter().map(|x| x.to_bits()).eq(answer.doubles.clone())
         }
-        Call::Distance => {
-            let d = paper::distance(&case.weights, &case.mu, &case.target, &case.candidate);
-            d.to_bits() == answer.report.real
-        }
+        Call::Distance => same_distance(&case.candidate),
+        Call::Nearest | Call::Seeded | Call::Ml => same_distance(&answer.integers),
         Call::List if answer.report.number == 0 => least_budget(case, answer.report.first),
         _ => true,
     };

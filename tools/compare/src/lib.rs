@@ -3,6 +3,7 @@
 pub mod answer;
 pub mod case;
 pub mod expected;
+pub mod listed;
 pub mod paper;
 pub mod port;
 pub mod random;
@@ -15,20 +16,34 @@ pub mod values;
 
 use answer::Answer;
 use case::Case;
+use listed::Listed;
 
 pub struct Difference {
     pub port: Answer,
     pub expected: Answer,
-    /// What else is amiss: a slice that had to stay, or a disagreement of the specification and the Rust.
+    /// What else is amiss: a slice that had to stay, a disagreement of the specification and the Rust, or a list that
+    /// does not begin at the distance of the nearest point.
     pub remarks: Vec<String>,
+}
+
+pub struct Comparison {
+    pub expected: Answer,
+    /// Whether the list beside a nearest point begins with another one; `None` where there is no list.
+    pub other_first: Option<bool>,
+    pub difference: Option<Difference>,
 }
 
 /// What was expected, and how the port's answer differs from it.
 #[must_use]
-pub fn compare(case: &Case) -> (Answer, Option<Difference>) {
+pub fn compare(case: &Case) -> Comparison {
     let (port, trespasses) = port::run(case);
     let expected::Expected { answer, disagreement } = expected::expected(case);
-    let remarks: Vec<String> = trespasses.into_iter().map(String::from).chain(disagreement).collect();
+    let mut remarks: Vec<String> = trespasses.into_iter().map(String::from).chain(disagreement).collect();
+    let other_first = listed::listed(case, &answer).map(|Listed { other_first, remarks: amiss }| {
+        remarks.extend(amiss);
+        other_first
+    });
     let differs = port != answer || !remarks.is_empty();
-    (answer.clone(), differs.then_some(Difference { port, expected: answer, remarks }))
+    let difference = differs.then(|| Difference { port, expected: answer.clone(), remarks });
+    Comparison { expected: answer, other_first, difference }
 }

@@ -3,7 +3,7 @@
 use compare::case::{Call, Case};
 use compare::shrink::shrink;
 use compare::tally::Tally;
-use compare::{Difference, compare, random, short};
+use compare::{Comparison, Difference, compare, random, short};
 use std::process::ExitCode;
 use std::sync::atomic::{AtomicU64, Ordering};
 use std::time::Instant;
@@ -63,11 +63,11 @@ impl Run {
             print_case(&case);
         }
         signals::wait_at_most(60);
-        let (answer, difference) = compare(&case);
+        let Comparison { expected, other_first, difference } = compare(&case);
         signals::wait_at_most(0);
-        self.tally.count(&case, &answer);
+        self.tally.count(&case, &expected, other_first);
         if self.only.is_some() {
-            println!("expected {answer}");
+            println!("expected {expected}");
         }
         if let Some(difference) = difference {
             self.found = Some((number, case, difference));
@@ -80,8 +80,8 @@ impl Run {
         let Some((number, case, difference)) = self.found else { return true };
         println!("DIFFERENCE in {} case {number} of seed {seed}", self.part);
         print(&case, &difference);
-        let smallest = shrink(&case, &|c| compare(c).1.is_some());
-        if let Some(difference) = compare(&smallest).1 {
+        let smallest = shrink(&case, &|c| compare(c).difference.is_some());
+        if let Some(difference) = compare(&smallest).difference {
             println!("the smallest found:");
             print(&smallest, &difference);
         }

@@ -23,7 +23,7 @@ pub fn reach(case: &Case, cap: u64) -> Option<u64> {
         _ => return paper::opened(case, *radius, cap),
     };
     match found {
-        Ok((_, nodes)) => Some(nodes),
+        Ok((_, nodes, _)) => Some(nodes),
         // Without a point the radius never shrinks: the walk opens what a list opens.
         Err(DecodeError::OutsideRadius { .. }) => paper::opened(case, *radius, cap),
         Err(_) => None,

@@ -18,6 +18,9 @@ pub struct Tally {
     /// Points and lists found with a coordinate beyond 2^53, and with one within 1,024 of an end of i64.
     lossy: u64,
     ends: u64,
+    /// Nearest points beside which their list was compared, and those of them whose list begins with another point.
+    listed: u64,
+    other_first: u64,
 }
 
 fn row(name: &str, cells: &[u64]) -> String {
@@ -37,7 +40,10 @@ fn sum<const N: usize>(rows: &[[u64; N]]) -> [u64; N] {
 }
 
 impl Tally {
-    pub fn count(&mut self, case: &Case, answer: &Answer) {
+    /// `other_first` is that of the comparison.
+    pub fn count(&mut self, case: &Case, answer: &Answer, other_first: Option<bool>) {
+        self.listed += u64::from(other_first.is_some());
+        self.other_first += u64::from(other_first == Some(true));
         let kind = case.call as usize;
         let number = answer.report.number as usize;
         self.by_number[kind][number.min(NUMBERS - 1)] += 1;
@@ -59,7 +65,7 @@ impl Tally {
         self.by_number.iter().flatten().sum()
     }
 
-    /// Two markdown tables and a line.
+    /// Two markdown tables and two lines.
     #[must_use]
     pub fn text(&self, time: Duration) -> String {
         let mut text = String::from("| call | success |");
@@ -78,10 +84,11 @@ impl Tally {
         }
         text.push_str(&row("all", &sum(&self.by_dimension)));
         text.push_str(&row("points and lists found", &self.found));
-        let Self { nodes, lossy, ends, .. } = self;
+        let Self { nodes, lossy, ends, listed, other_first, .. } = self;
         let (cases, seconds) = (self.total(), time.as_secs_f64());
         text.push_str(&format!(
-            "\n{cases} cases, {nodes} nodes, {seconds:.1} s; found beyond 2^53: {lossy}, at an end of i64: {ends}\n"
+            "\n{cases} cases, {nodes} nodes, {seconds:.1} s; found beyond 2^53: {lossy}, at an end of i64: {ends}\n\
+             nearest points beside their list: {listed}, the list beginning with another point: {other_first}\n"
         ));
         text
     }

@@ -1,7 +1,10 @@
-//! The specification's bench cases A to L: the answers that it gives, of the port and of what the comparison expects.
+//! The specification's bench cases A to L: the answers that it gives, of the port and of what the comparison expects; a
+//! distance by its bits; and the list beside a nearest point.
 
 use compare::answer::{Answer, Report, before};
 use compare::case::{Call, Case};
+use compare::listed::listed;
+use compare::{Comparison, compare};
 
 const ULP: f64 = f64::EPSILON;
 const LIMIT: f64 = 4_503_599_627_370_496.0;
@@ -12,13 +15,13 @@ fn answers(case: &Case, report: Report, integers: &[i64], doubles: &[f64]) {
     let (mut z, mut x) = before(case);
     z.splice(..integers.len().min(z.len()), integers.iter().copied());
     x.splice(..doubles.len(), doubles.iter().map(|d| d.to_bits()));
-    let (expected, difference) = compare::compare(case);
+    let Comparison { expected, difference, .. } = compare(case);
     assert!(difference.is_none(), "{case}");
     assert_eq!(expected, Answer { report, integers: z, doubles: x }, "{case}");
 }
 
-fn found(case: &Case, point: &[i64], nodes: u64) {
-    answers(case, Report::whole(0, nodes, 0), point, &[]);
+fn found(case: &Case, point: &[i64], nodes: u64, distance: f64) {
+    answers(case, Report::found(nodes, distance), point, &[]);
 }
 
 fn refused(case: &Case, report: Report) {
@@ -35,21 +38,25 @@ fn one(call: Call, weight: f64, target: f64, radius: f64, budget: u64) -> Case {
 
 #[test]
 fn a() {
-    let case = |call| Case::new(call, &[], &[], &[], 0.0, 0);
-    found(&case(Call::Nearest), &[], 0);
-    answers(&case(Call::List).with_places(1), Report::whole(0, 0, 1), &[], &[0.0]);
+    for radius in [0.0, -0.0, 4.0, f64::MAX] {
+        let case = |call| Case::new(call, &[], &[], &[], radius, 0);
+        for call in [Call::Nearest, Call::Seeded, Call::Ml] {
+            found(&case(call), &[], 0, 0.0);
+        }
+        answers(&case(Call::List).with_places(1), Report::whole(0, 0, 1), &[], &[0.0]);
+    }
 }
 
 #[test]
 fn b_to_d() {
-    found(&one(Call::Nearest, 4.0, 0.75, 0.25, 1), &[1], 1);
+    found(&one(Call::Nearest, 4.0, 0.75, 0.25, 1), &[1], 1, 0.25);
     refused(&one(Call::Nearest, 4.0, 0.75, 0.125, 0), Report::double(16, 0.125));
     refused(&one(Call::Nearest, 4.0, 0.75, 0.25, 0), exhausted(0, 0.25));
 }
 
 #[test]
 fn e_and_f() {
-    found(&one(Call::Nearest, 1.0, HALF, 1.0, 2), &[0], 2);
+    found(&one(Call::Nearest, 1.0, HALF, 1.0, 2), &[0], 2, 0.25);
     refused(&one(Call::Nearest, 1.0, HALF, 1.0, 1), exhausted(1, 0.25));
     refused(&one(Call::List, 1.0, HALF, 1.0, 1), exhausted(1, 1.0));
 }
@@ -57,8 +64,8 @@ fn e_and_f() {
 #[test]
 fn g() {
     let case = |call| Case::new(call, &[1.0; 2], &[0.0, 0.0, 0.5, 0.0], &[0.25, 0.5], 2.0, 100);
-    found(&case(Call::Nearest), &[0, 1], 5);
-    found(&case(Call::Ml), &[0, 1], 3);
+    found(&case(Call::Nearest), &[0, 1], 5, 0.25);
+    found(&case(Call::Ml), &[0, 1], 3, 0.25);
     let list = case(Call::List).with_places(256);
     let points = [0, 1, 0, 0, 1, 0, -1, 1, 1, 1];
     answers(&list, Report::whole(0, 7, 5), &points, &[0.25, 0.5, 0.5, 1.25, 1.25]);
@@ -68,7 +75,7 @@ fn g() {
 fn h_and_i() {
     let case = |call, radius, budget| Case::new(call, &[2.0 * ULP, 4.0], &[0.0; 4], &[HALF; 2], radius, budget);
     refused(&case(Call::Nearest, 1.0, 2), Report::double(16, 1.0));
-    found(&case(Call::Nearest, 1.0 + ULP, 4), &[0, 1], 4);
+    found(&case(Call::Nearest, 1.0 + ULP, 4), &[0, 1], 4, 1.0);
     let list = case(Call::List, 1.0 + ULP, 6).with_places(9);
     answers(&list, Report::whole(0, 6, 4), &[0, 0, 0, 1, 1, 0, 1, 1], &[1.0; 4]);
 }
@@ -81,12 +88,12 @@ fn j() {
         let case = Case::new(Call::RoundAway, &[], &[], &[x], 0.0, 0);
         assert_eq!(compare::port::run(&case).0.integers, [z]);
     }
-    found(&Case::new(Call::Round, &[], &[], &halves, 0.0, 0).with_places(4), &rounded, 0);
+    answers(&Case::new(Call::Round, &[], &[], &halves, 0.0, 0).with_places(4), Report::default(), &rounded, &[]);
 }
 
 #[test]
 fn k() {
-    found(&one(Call::Nearest, 1.0, LIMIT, 0.0, 1), &[1 << 52], 1);
+    found(&one(Call::Nearest, 1.0, LIMIT, 0.0, 1), &[1 << 52], 1, 0.0);
     refused(&one(Call::Nearest, 1.0, LIMIT + 1.0, 0.0, 1), Report::whole(7, 0, 0));
 }
 
@@ -94,6 +101,61 @@ fn k() {
 fn l() {
     let case = |radius, budget| one(Call::Seeded, 1.0, HALF, radius, budget).with_candidate(&[2]);
     refused(&case(2.0, 100), Report::double(12, 2.0));
-    found(&case(2.25, 100), &[0], 4);
+    found(&case(2.25, 100), &[0], 4, 0.25);
     refused(&case(2.25, (1 << 60) + 1), Report::whole(9, (1 << 60) + 1, 0));
+}
+
+/// The candidate, [-1, 1, 2], is the nearest-plane point, at about 0.544. Summed from level 0 upward the distance has
+/// other bits.
+#[test]
+fn distance() {
+    let mu = [0.0, 0.0, 0.0, -0.7, 0.0, 0.0, 0.3, 0.9, 0.0];
+    let case = |call, radius| Case::new(call, &[1.7, 0.4, 2.1], &mu, &[-1.4, 0.9, 1.7], radius, 100);
+    let distance = f64::from_bits(0x3fd7_d2c7_b890_d5a2);
+    found(&case(Call::Nearest, 1.3), &[-2, 0, 2], 9, distance);
+    found(&case(Call::Seeded, 0.6).with_candidate(&[-1, 1, 2]), &[-2, 0, 2], 5, distance);
+    found(&case(Call::Ml, 0.0), &[-2, 0, 2], 5, distance);
+}
+
+// ---- the list beside a nearest point
+
+fn table_of_i(radius: f64) -> Case {
+    Case::new(Call::Nearest, &[2.0 * ULP, 4.0], &[0.0; 4], &[HALF; 2], radius, 100)
+}
+
+fn other_first(case: &Case) -> Option<bool> {
+    compare(case).other_first
+}
+
+/// In case I the list begins with [0, 0], and the answer is [0, 1].
+#[test]
+fn lists_compared() {
+    let g = Case::new(Call::Nearest, &[1.0; 2], &[0.0, 0.0, 0.5, 0.0], &[0.25, 0.5], 2.0, 5);
+    assert_eq!(other_first(&g), Some(false));
+    assert_eq!(other_first(&table_of_i(1.0 + ULP)), Some(true));
+    assert_eq!(other_first(&Case::new(Call::Nearest, &[], &[], &[], 4.0, 0)), Some(false));
+}
+
+/// Where nothing is found, in another call, and where the list opens 1,001 prefixes.
+#[test]
+fn no_lists() {
+    assert_eq!(other_first(&table_of_i(1.0)), None);
+    assert_eq!(other_first(&Case { call: Call::Ml, ..table_of_i(1.0) }), None);
+    for (reach, nodes, listed) in [(499.0, 999, Some(false)), (500.0, 1_001, None)] {
+        let case = one(Call::Nearest, 1.0, 0.0, reach * reach, 2_000);
+        found(&case, &[0], nodes, 0.0);
+        assert_eq!(other_first(&case), listed);
+    }
+}
+
+/// A distance that is not the list's first, and a point that is not in the list.
+#[test]
+fn lists_that_differ() {
+    let case = table_of_i(1.0 + ULP);
+    let Comparison { expected, .. } = compare(&case);
+    let remarks = |answer: &Answer| listed(&case, answer).unwrap().remarks.len();
+    assert_eq!(remarks(&expected), 0);
+    let above = Report::found(expected.report.first, 1.0 + ULP);
+    assert_eq!(remarks(&Answer { report: above, ..expected.clone() }), 2);
+    assert_eq!(remarks(&Answer { integers: vec![0, 2], ..expected }), 1);
 }

@@ -1,6 +1,6 @@
 //! The run test `enumerate_test` as Rust, with the original in the place of the crate `enumerate`: what it prints is
-//! what is stored in crates/enumerate_test/stdout. Refusals 2 to 5 and 9, which the original does not have, are
-//! the specification's.
+//! what is stored in crates/enumerate_test/stdout. A distance is that of the original's `triangular_distance`. Refusals
+//! 2 to 5 and 9, which the original does not have, are the specification's.
 
 #![allow(dead_code)]
 
@@ -11,7 +11,7 @@ mod enumerate {
     use super::common;
     use oracle::enumerate::EnumerationScratch;
 
-    pub use common::NearestAnswer;
+    pub use common::{NearestAnswer, NearestPoint};
 
     pub fn nearest(
         weights: &[f64],
@@ -22,7 +22,9 @@ mod enumerate {
         budget: u64,
     ) -> NearestAnswer {
         let answer = common::answer(weights, mu, budget, None, |table, budget| {
-            table.nearest(target, out, radius, budget, &mut EnumerationScratch::new()).map_err(common::refusal)
+            let scratch = &mut EnumerationScratch::new();
+            let nodes = table.nearest(target, out, radius, budget, scratch).map_err(common::refusal)?;
+            Ok(NearestPoint::new(table, target, out, nodes))
         });
         answer.into()
     }

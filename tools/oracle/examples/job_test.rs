@@ -2,11 +2,11 @@
 //! the file's name and a colon, then what the job program prints for the file's bytes. With an argument, only what it
 //! prints for the file that the argument names.
 //!
-//! The original's: the points, the counts, the distances, the list's order and refusals 7, 8, 15 and 16. A list's nodes,
-//! which it does not hand out, are the least budget that it accepts. Worked out here, by the specification: the layout
-//! with refusal 1, refusals 3, 4, 5, 9 and 18, which refusal comes first, the ratio and the text. A job can't meet the
-//! others: by its layout its table has the right size and its target the right length, and the program lends the list
-//! right slices.
+//! The original's: the points, the counts, the distances, the list's order and refusals 7, 8, 15 and 16. What it does
+//! not hand out: a list's nodes are the least budget that it accepts, the distance of the nearest point is that of its
+//! `triangular_distance`. Worked out here, by the specification: the layout with refusal 1, refusals 3, 4, 5, 9 and 18,
+//! which refusal comes first, the ratio and the text. A job can't meet the others: by its layout its table has the right
+//! size and its target the right length, and the program lends the list right slices.
 
 use oracle::Enumerator;
 use oracle::error::DecodeError;
@@ -117,6 +117,11 @@ fn refusal_line(word: &str, number: u32) -> String {
     format!("{word} refused {number} {group}\n")
 }
 
+/// The 16 digits of a distance.
+fn bits(distance: f64) -> String {
+    format!("{:016X}", distance.to_bits())
+}
+
 /// Each coordinate after a blank.
 fn coordinates(point: &[i64]) -> String {
     point.iter().map(|z| format!(" {z}")).collect()
@@ -125,7 +130,7 @@ fn coordinates(point: &[i64]) -> String {
 fn nearest_line(job: &Job) -> String {
     let found = answer(job, |table, budget| oracle::nearest(table, &job.target, job.weights.len(), job.radius, budget));
     match found {
-        Ok((point, nodes)) => format!("nearest {nodes}{}\n", coordinates(&point)),
+        Ok((point, nodes, distance)) => format!("nearest {nodes} {}{}\n", bits(distance), coordinates(&point)),
         Err(number) => refusal_line("nearest", number),
     }
 }
@@ -148,8 +153,7 @@ fn list_lines(job: &Job) -> String {
             }
         }
     };
-    let lines: String =
-        points.iter().map(|(distance, z)| format!("{:016X}{}\n", distance.to_bits(), coordinates(z))).collect();
+    let lines: String = points.iter().map(|(distance, z)| format!("{}{}\n", bits(*distance), coordinates(z))).collect();
     format!("list {nodes} {}\n{lines}ratio {ratio}\n", points.len())
 }
 

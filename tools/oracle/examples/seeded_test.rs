@@ -1,7 +1,7 @@
 //! The run test `seeded_test` as Rust, with the original in the place of the crate `seeded`: what it prints is what is
-//! stored in crates/seeded_test/stdout. Refusals 2 to 5 and 9, which the original does not have, are the
-//! specification's. By it the original's LengthMismatch is 6 or 10, its InvalidRadius 8, 11, 12 or 13, and its
-//! OutsideRadius 17.
+//! stored in crates/seeded_test/stdout. A distance is that of the original's `triangular_distance`. Refusals 2 to 5 and
+//! 9, which the original does not have, are the specification's. By it the original's LengthMismatch is 6 or 10, its
+//! InvalidRadius 8, 11, 12 or 13, and its OutsideRadius 17.
 
 #![allow(dead_code, clippy::too_many_arguments)]
 
@@ -9,12 +9,12 @@ mod common;
 use common::{printing, refusals};
 
 mod enumerate {
-    pub use super::common::NearestAnswer;
+    pub use super::common::{NearestAnswer, NearestPoint};
 }
 
 mod seeded {
     use super::common;
-    use super::enumerate::NearestAnswer;
+    use super::enumerate::{NearestAnswer, NearestPoint};
     use super::refusals::Refusal;
     use oracle::Enumerator;
     use oracle::enumerate::EnumerationScratch;
@@ -42,14 +42,16 @@ mod seeded {
         let fit = target.len() == n && out.len() == n;
         let answer = common::answer(weights, mu, budget, None, |table, budget| {
             let scratch = &mut EnumerationScratch::new();
-            table.nearest_seeded(target, out, candidate, radius, budget, scratch).map_err(|error| match error {
+            let nodes = table.nearest_seeded(target, out, candidate, radius, budget, scratch);
+            let nodes = nodes.map_err(|error| match error {
                 DecodeError::LengthMismatch { expected, found } if fit => Refusal::CandidateLength(expected, found),
                 DecodeError::InvalidRadius { radius_sq } if radius.is_finite() && radius >= 0.0 => {
                     candidate_fault(table, target, candidate, radius, radius_sq)
                 }
                 DecodeError::OutsideRadius { radius_sq } => Refusal::NoSeed(radius_sq),
                 _ => common::refusal(error),
-            })
+            })?;
+            Ok(NearestPoint::new(table, target, out, nodes))
         });
         answer.into()
     }
@@ -57,7 +59,7 @@ mod seeded {
     pub fn nearest_ml(weights: &[f64], mu: &[f64], target: &[f64], out: &mut [i64], budget: u64) -> NearestAnswer {
         let answer = common::answer(weights, mu, budget, None, |table, budget| {
             let scratch = &mut EnumerationScratch::new();
-            table.nearest_ml(target, out, budget, scratch).map_err(|error| match error {
+            let nodes = table.nearest_ml(target, out, budget, scratch).map_err(|error| match error {
                 DecodeError::InvalidRadius { radius_sq } => {
                     // The radius is the seed's distance, so 12 does not arise.
                     let (seed, _) = oracle::nearest_plane(table, target, target.len()).unwrap();
@@ -65,7 +67,8 @@ mod seeded {
                 }
                 DecodeError::OutsideRadius { radius_sq } => Refusal::NoSeed(radius_sq),
                 _ => common::refusal(error),
-            })
+            })?;
+            Ok(NearestPoint::new(table, target, out, nodes))
         });
         answer.into()
     }

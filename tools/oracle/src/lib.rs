@@ -23,11 +23,17 @@ pub fn rounded_away(v: f64) -> i64 {
     round_away(v)
 }
 
-/// A point and the nodes that its search opened.
-pub type Found = Result<(Vec<i64>, u64), DecodeError>;
+/// A point, the nodes that its search opened, and the point's distance.
+pub type Found = Result<(Vec<i64>, u64, f64), DecodeError>;
 
 /// Points with their distances, and the nodes that their search opened.
 pub type Listed = Result<(Vec<(f64, Vec<i64>)>, u64), DecodeError>;
+
+/// What a search found, with the distance that `triangular_distance` gives its point: the original hands none out.
+fn found(table: &Enumerator, target: &[f64], point: Vec<i64>, nodes: u64) -> Found {
+    let distance = table.triangular_distance(target, &point)?;
+    Ok((point, nodes, distance))
+}
 
 /// `nearest` with an output of the given length.
 ///
@@ -37,7 +43,7 @@ pub type Listed = Result<(Vec<(f64, Vec<i64>)>, u64), DecodeError>;
 pub fn nearest(table: &Enumerator, target: &[f64], places: usize, radius: f64, budget: u64) -> Found {
     let mut out = vec![0; places];
     let nodes = table.nearest(target, &mut out, radius, budget, &mut enumerate::EnumerationScratch::new())?;
-    Ok((out, nodes))
+    found(table, target, out, nodes)
 }
 
 /// `nearest_seeded` with an output of the given length.
@@ -52,14 +58,14 @@ pub fn nearest_seeded(
     let mut out = vec![0; places];
     let scratch = &mut enumerate::EnumerationScratch::new();
     let nodes = table.nearest_seeded(target, &mut out, candidate, radius, budget, scratch)?;
-    Ok((out, nodes))
+    found(table, target, out, nodes)
 }
 
 /// `nearest_ml` with an output of the given length.
 pub fn nearest_ml(table: &Enumerator, target: &[f64], places: usize, budget: u64) -> Found {
     let mut out = vec![0; places];
     let nodes = table.nearest_ml(target, &mut out, budget, &mut enumerate::EnumerationScratch::new())?;
-    Ok((out, nodes))
+    found(table, target, out, nodes)
 }
 
 /// The points of `list` with their distances, and the nodes of its walk: the least budget that it accepts.

@@ -109,5 +109,5 @@ fn text<T>(answer: Result<T, DecodeError>, write: impl Fn(T) -> String) -> Strin
 }
 
 fn found(answer: Found) -> String {
-    text(answer, |(point, nodes)| format!("found {nodes} {}", integers(&point)))
+    text(answer, |(point, nodes, distance)| format!("found {nodes} {} {}", bits(distance), integers(&point)))
 }

@@ -25,20 +25,20 @@ fn refused<T: PartialEq + std::fmt::Debug>(found: Result<T, DecodeError>, expect
 #[test]
 fn a() {
     let table = Enumerator::from_table(&[], &[]);
-    is(nearest(&table, &[], 0, 0.0, 0), (vec![], 0));
+    is(nearest(&table, &[], 0, 0.0, 0), (vec![], 0, 0.0));
     is(list(&table, &[], 0.0, 0), (vec![(0.0, vec![])], 0));
 }
 
 #[test]
 fn b_to_d() {
-    is(nearest(&one(4.0), &[0.75], 1, 0.25, 1), (vec![1], 1));
+    is(nearest(&one(4.0), &[0.75], 1, 0.25, 1), (vec![1], 1, 0.25));
     refused(nearest(&one(4.0), &[0.75], 1, 0.125, 0), OutsideRadius { radius_sq: 0.125 });
     refused(nearest(&one(4.0), &[0.75], 1, 0.25, 0), BudgetExhausted { nodes: 0, radius_sq: 0.25 });
 }
 
 #[test]
 fn e_and_f() {
-    is(nearest(&one(1.0), &[0.5], 1, 1.0, 2), (vec![0], 2));
+    is(nearest(&one(1.0), &[0.5], 1, 1.0, 2), (vec![0], 2, 0.25));
     refused(nearest(&one(1.0), &[0.5], 1, 1.0, 1), BudgetExhausted { nodes: 1, radius_sq: 0.25 });
     refused(list(&one(1.0), &[0.5], 1.0, 1), BudgetExhausted { nodes: 1, radius_sq: 1.0 });
 }
@@ -49,9 +49,9 @@ fn g() {
     let target = [0.25, 0.5];
     let points =
         vec![(0.25, vec![0, 1]), (0.5, vec![0, 0]), (0.5, vec![1, 0]), (1.25, vec![-1, 1]), (1.25, vec![1, 1])];
-    is(nearest(&table, &target, 2, 2.0, 100), (vec![0, 1], 5));
+    is(nearest(&table, &target, 2, 2.0, 100), (vec![0, 1], 5, 0.25));
     is(list(&table, &target, 2.0, 100), (points, 7));
-    is(nearest_ml(&table, &target, 2, 100), (vec![0, 1], 3));
+    is(nearest_ml(&table, &target, 2, 100), (vec![0, 1], 3, 0.25));
     is(nearest_plane(&table, &target, 2), (vec![0, 1], vec![0.25, -0.5]));
 }
 
@@ -64,7 +64,7 @@ fn h_and_i() {
         is(table.triangular_distance(&target, &point), 1.0);
     }
     let radius = 1.0 + ULP;
-    is(nearest(&table, &target, 2, radius, 4), (vec![0, 1], 4));
+    is(nearest(&table, &target, 2, radius, 4), (vec![0, 1], 4, 1.0));
     refused(list(&table, &target, radius, 4), BudgetExhausted { nodes: 4, radius_sq: radius });
     let points = [[0, 0], [0, 1], [1, 0], [1, 1]].map(|z| (1.0, z.to_vec())).to_vec();
     is(list(&table, &target, radius, 6), (points, 6));
@@ -79,7 +79,7 @@ fn j() {
 
 #[test]
 fn k() {
-    is(nearest(&one(1.0), &[LIMIT], 1, 0.0, 1), (vec![1 << 52], 1));
+    is(nearest(&one(1.0), &[LIMIT], 1, 0.0, 1), (vec![1 << 52], 1, 0.0));
     refused(nearest(&one(1.0), &[LIMIT + 1.0], 1, 0.0, 1), NonFinite { index: 0 });
 }
 
@@ -87,14 +87,16 @@ fn k() {
 fn l() {
     let table = one(1.0);
     refused(nearest_seeded(&table, &[0.5], 1, &[2], 2.0, 100), InvalidRadius { radius_sq: 2.0 });
-    is(nearest_seeded(&table, &[0.5], 1, &[2], 2.25, 100), (vec![0], 4));
+    is(nearest_seeded(&table, &[0.5], 1, &[2], 2.25, 100), (vec![0], 4, 0.25));
 }
 
 #[test]
 fn lines() {
     let case = "nearest 1 3ff0000000000000 0000000000000000 3fe0000000000000 3ff0000000000000";
-    assert_eq!(oracle::answer(&format!("{case} 2 -")), "found 2 [ 0 ]");
+    assert_eq!(oracle::answer(&format!("{case} 2 -")), "found 2 3fd0000000000000 [ 0 ]");
     assert_eq!(oracle::answer(&format!("{case} 1 -")), "BudgetExhausted(1, 3fd0000000000000)");
     assert_eq!(oracle::answer(&format!("{case} 1 - 2")), "LengthMismatch(1, 2)");
     assert_eq!(oracle::answer(&format!("{case} two -")), "malformed budget: two");
+    assert_eq!(oracle::answer("nearest_seeded 0 - - - 4010000000000000 0 -"), "found 0 0000000000000000 [ ]");
+    assert_eq!(oracle::answer("nearest 0 - - - 8000000000000000 0 -"), "found 0 0000000000000000 [ ]");
 }

@@ -15,11 +15,14 @@ unfolding text nearestLine
 returns c =
     let end = c .before .before in
     let zs = end .before .before .before .before .before in
-    let count = zs .before .before .before .before in
+    let distance = zs .before .before .before .before in
+    let blank = distance .before .before .before .before in
+    let count = blank .before .before .before .before .before in
     let word = count .before .before .before .before in
     let variant = word .before .before .before .before .answer .given in
     let s = word .before .before .before .before .before .before .before in
-    let line = written-then (written-then (written-then (word .put .ensures) (count .decimal .ensures)) (zs .point .ensures)) (end .put2 .ensures) in
+    let head = written-then (written-then (word .put .ensures) (count .decimal .ensures)) (blank .put2 .ensures) in
+    let line = written-then (written-then (written-then head (distance .hexadecimal .ensures)) (zs .point .ensures)) (end .put3 .ensures) in
     written-as line (sym (ap (λ (x : NearestAnswer). nearestLine (nearestAnswer x (s .args .zs .now))) (variant .1))) (omega (arith, s .pre .few))
 
 returns-2 : tie.Need-returns-2
@@ -37,6 +40,9 @@ nearest-line-spec =
     tie.close
     (tie.spec
     (λ c. search needs)
+    (λ c. search needs)
+    (λ c κs. search needs)
+    (λ c κs. search needs)
     (λ c. search needs)
     (λ c κs. search needs)
     (λ c κs. search needs)

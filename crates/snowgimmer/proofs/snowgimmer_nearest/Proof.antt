@@ -10,6 +10,7 @@ use Rattle.theorems.specs.Promises.{NearestPromises}
 use Rattle.theorems.proofs.Checked.{doubles-in}
 use Rattle.theorems.proofs.Promises.{nearest-promises}
 use Rattle.snowgimmer.specs.Reports.{ofNearest}
+use Rattle.snowgimmer.proofs.DistanceAgrees.{distance-agrees}
 use borrow.Author.Needs.{needs}
 use Rattle.snowgimmer.proofs.snowgimmer_nearest.Statement.{statement}
 use Rattle.snowgimmer.proofs.snowgimmer_nearest.Tie as tie
@@ -24,10 +25,12 @@ returns c =
     let t = table (a .weights .now) (a .mu .now) in
     let answered = at .nearest .ensures in
     let doubles = doubles-in t (a .target .now) (known .before .before .shared-slice-known .given) (known .before .shared-slice-known2 .given) (known .shared-slice-known3 .given) in
+    let promises = subst (λ (o : List ℤ). NearestPromises t (a .target .now) (a .out .now) (a .radius) (a .budget) (C.nearest t (a .target .now) (a .out .now) (a .radius) (a .budget)) o) (sym (answered .writes)) (nearest-promises t (a .target .now) (a .out .now) (a .radius) (a .budget) doubles (held (fifth (s .good) .1))) in
     record {
       tells = c .stored .ensures ∙ reported .nearest-report .ensures _ ∙ ap ofNearest (answered .tells);
       writes = answered .writes;
-      promises = subst (λ (o : List ℤ). NearestPromises t (a .target .now) (a .out .now) (a .radius) (a .budget) (C.nearest t (a .target .now) (a .out .now) (a .radius) (a .budget)) o) (sym (answered .writes)) (nearest-promises t (a .target .now) (a .out .now) (a .radius) (a .budget) doubles (held (fifth (s .good) .1)));
+      promises = promises;
+      distance-agrees = distance-agrees _ (promises .search);
     }
 
 pub snowgimmer-nearest-spec : {M : Type 1} → statement M

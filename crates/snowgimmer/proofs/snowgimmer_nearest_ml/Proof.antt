@@ -8,6 +8,7 @@ use Rattle.theorems.specs.Promises.{MlPromises}
 use Rattle.theorems.proofs.Checked.{doubles-in}
 use Rattle.theorems.proofs.Promises.{ml-promises}
 use Rattle.snowgimmer.specs.Reports.{ofNearest}
+use Rattle.snowgimmer.proofs.DistanceAgrees.{distance-agrees}
 use borrow.Author.Needs.{needs}
 use Rattle.snowgimmer.proofs.snowgimmer_nearest_ml.Statement.{statement}
 use Rattle.snowgimmer.proofs.snowgimmer_nearest_ml.Tie as tie
@@ -22,10 +23,12 @@ returns c =
     let t = table (a .weights .now) (a .mu .now) in
     let answered = at .nearest-ml .ensures in
     let doubles = doubles-in t (a .target .now) (known .before .before .shared-slice-known .given) (known .before .shared-slice-known2 .given) (known .shared-slice-known3 .given) in
+    let promises = subst (λ (o : List ℤ). MlPromises t (a .target .now) (a .out .now) (a .budget) (C.nearestMl t (a .target .now) (a .out .now) (a .budget)) o) (sym (answered .writes)) (ml-promises t (a .target .now) (a .out .now) (a .budget) doubles) in
     record {
       tells = c .stored .ensures ∙ reported .nearest-report .ensures _ ∙ ap ofNearest (answered .tells);
       writes = answered .writes;
-      promises = subst (λ (o : List ℤ). MlPromises t (a .target .now) (a .out .now) (a .budget) (C.nearestMl t (a .target .now) (a .out .now) (a .budget)) o) (sym (answered .writes)) (ml-promises t (a .target .now) (a .out .now) (a .budget) doubles);
+      promises = promises;
+      distance-agrees = distance-agrees _ (promises .search);
     }
 
 pub snowgimmer-nearest-ml-spec : {M : Type 1} → statement M

@@ -10,6 +10,7 @@ use Rattle.theorems.specs.Promises.{SeededPromises}
 use Rattle.theorems.proofs.Checked.{doubles-in}
 use Rattle.theorems.proofs.Promises.{seeded-promises}
 use Rattle.snowgimmer.specs.Reports.{ofNearest}
+use Rattle.snowgimmer.proofs.DistanceAgrees.{distance-agrees}
 use borrow.Author.Needs.{needs}
 use Rattle.snowgimmer.proofs.snowgimmer_nearest_seeded.Statement.{statement}
 use Rattle.snowgimmer.proofs.snowgimmer_nearest_seeded.Tie as tie
@@ -25,10 +26,12 @@ returns c =
     let t = table (a .weights .now) (a .mu .now) in
     let answered = at .nearest-seeded .ensures in
     let doubles = doubles-in t (a .target .now) (known .before .before .shared-slice-known .given) (known .before .shared-slice-known2 .given) (known .shared-slice-known3 .given) in
+    let promises = subst (λ (o : List ℤ). SeededPromises t (a .target .now) (a .out .now) (a .candidate .now) (a .radius) (a .budget) (C.nearestSeeded t (a .target .now) (a .out .now) (a .candidate .now) (a .radius) (a .budget)) o) (sym (answered .writes)) (seeded-promises t (a .target .now) (a .out .now) (a .candidate .now) (a .radius) (a .budget) doubles (held (sixth (s .good) .1)) (integers .read-integers .ensures)) in
     record {
       tells = c .stored .ensures ∙ reported .nearest-report .ensures _ ∙ ap ofNearest (answered .tells);
       writes = answered .writes;
-      promises = subst (λ (o : List ℤ). SeededPromises t (a .target .now) (a .out .now) (a .candidate .now) (a .radius) (a .budget) (C.nearestSeeded t (a .target .now) (a .out .now) (a .candidate .now) (a .radius) (a .budget)) o) (sym (answered .writes)) (seeded-promises t (a .target .now) (a .out .now) (a .candidate .now) (a .radius) (a .budget) doubles (held (sixth (s .good) .1)) (integers .read-integers .ensures));
+      promises = promises;
+      distance-agrees = distance-agrees _ (promises .search);
     }
 
 pub snowgimmer-nearest-seeded-spec : {M : Type 1} → statement M

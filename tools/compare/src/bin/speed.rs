@@ -84,7 +84,7 @@ fn print(name: &str, inputs: usize, size: &str, per: f64, [rust, port]: [Times; 
 
 /// The whole comparison once, so that what is timed is known to be the same.
 fn assert_same(case: &Case) {
-    assert!(compare(case).1.is_none(), "the answers differ: {case}");
+    assert!(compare(case).difference.is_none(), "the answers differ: {case}");
 }
 
 // ---- nearest_ml

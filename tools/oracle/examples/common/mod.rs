@@ -33,6 +33,15 @@ pub mod printing {
 
 pub struct NearestPoint {
     pub nodes: u64,
+    pub distance: f64,
+}
+
+impl NearestPoint {
+    /// What a search gives beside the point that it wrote. The distance, which the original's searches do not hand out,
+    /// is that of its `triangular_distance`.
+    pub fn new(table: &Enumerator, target: &[f64], point: &[i64], nodes: u64) -> Self {
+        Self { nodes, distance: table.triangular_distance(target, point).unwrap() }
+    }
 }
 
 pub enum NearestAnswer {
@@ -40,10 +49,10 @@ pub enum NearestAnswer {
     Refused(Refusal),
 }
 
-impl From<Result<u64, Refusal>> for NearestAnswer {
-    fn from(answer: Result<u64, Refusal>) -> Self {
+impl From<Result<NearestPoint, Refusal>> for NearestAnswer {
+    fn from(answer: Result<NearestPoint, Refusal>) -> Self {
         match answer {
-            Ok(nodes) => Self::Found(NearestPoint { nodes }),
+            Ok(point) => Self::Found(point),
             Err(refusal) => Self::Refused(refusal),
         }
     }
