@@ -3,32 +3,24 @@ use mathlib.Core.Path.{_≡_, refl, ap, sym, _∙_}
 use mathlib.Core.List.{List, [], _∷_, _++_, append-assoc, append-nil, map}
 use Prim.Native.Nat.{ℕ, zero, suc, _*_}
 use native.Mathlib.Omega.{arith}
-use lib.Dec.{T}
 use lib.ListN.{length, length-map}
-use lib.Ieee.{Float, binary64, fits, toBits}
+use lib.Ieee.{Float, binary64, toBits}
 use lib.Ieee.Bits.{ofBits-toBits, toBits-lt}
 use lib.Ieee.Fits.{and-l, and-r}
-use Rattle.lists.specs.All.{All, none, more}
+use Rattle.lists.specs.All.{none, more}
 use Rattle.lists.proofs.Each.{all-take, all-drop, all-append}
 use Rattle.definitions.specs.Table.{dimension}
 use Rattle.definitions.specs.JobLayout.{Job, job, doubles, muRows, triangle, jobOf}
 use Rattle.definitions.specs.JobEncoding.{sectionBytes, doublesBytes, readEntries, jobBytes}
 use Rattle.theorems.specs.Doubles.{allDoubles}
 use Rattle.theorems.specs.EncodedJob.{Encodable}
+use Rattle.theorems.proofs.Doubles.{AllDouble, all-double}
 use Rattle.theorems.proofs.EncodedSections.{AllSmall, sections-read}
 use Rattle.theorems.proofs.EncodedRows.{entries-length, rows-read}
 
 -- ---- doubles by their bits
-abbrev AllDouble : List Float → Type 0
-AllDouble xs = All (λ (x : Float). T (fits binary64 x)) xs
-
 abbrev bits : List Float → List ℕ
 bits xs = map (toBits binary64) xs
-
-all-double : (xs : List Float) → T (allDoubles xs) → AllDouble xs
-unfolding allDoubles
-all-double [] d = none
-all-double (x ∷ xs) d = more (and-l (fits binary64 x) (allDoubles xs) d) (all-double xs (and-r (fits binary64 x) (allDoubles xs) d))
 
 bits-small : {xs : List Float} → AllDouble xs → AllSmall (bits xs)
 bits-small none = none

@@ -9,32 +9,24 @@ use lib.Ieee.{Float, binary64, fits}
 use lib.Ieee.Bits.{ofBits-fits}
 use lib.Ieee.Fits.{and-i}
 use Rattle.rounding.proofs.Interface.{zero-nonneg}
-use Rattle.lists.specs.All.{All, none, more}
+use Rattle.lists.specs.All.{none, more}
 use Rattle.lists.proofs.Each.{all-take, all-drop, all-append}
 use Rattle.definitions.specs.Table.{plusZero, largestDimension}
 use Rattle.definitions.specs.JobLayout.{Section, items, section-fault, section, Job, Layout, job, layout-fault, andThen, doubles, triangle, muRows, jobOf}
 use Rattle.theorems.specs.Doubles.{allDoubles, ofDoubles}
-
-abbrev IsDouble : Float → Type 0
-IsDouble x = T (fits binary64 x)
+use Rattle.theorems.proofs.Doubles.{AllDouble, doubles-tested}
 
 -- ---- lists of doubles
--- as the test says it
-all-doubles : {xs : List Float} → All IsDouble xs → T (allDoubles xs)
-unfolding allDoubles
-all-doubles none = tt
-all-doubles (more {x = x} {xs = xs} d a) = and-i (fits binary64 x) (allDoubles xs) d (all-doubles a)
-
 -- whatever the bits
-bits-double : (patterns : List ℕ) → All IsDouble (doubles patterns)
+bits-double : (patterns : List ℕ) → AllDouble (doubles patterns)
 bits-double [] = none
 bits-double (b ∷ patterns) = more (ofBits-fits binary64 b) (bits-double patterns)
 
-zeros-double : (k : ℕ) → All IsDouble (replicate k plusZero)
+zeros-double : (k : ℕ) → AllDouble (replicate k plusZero)
 zeros-double zero = none
 zeros-double (suc k) = more (zero-nonneg binary64 .num .fit) (zeros-double k)
 
-rows-double : (n : ℕ) {entries : List Float} → All IsDouble entries → (j : ℕ) → All IsDouble (muRows n entries j)
+rows-double : (n : ℕ) {entries : List Float} → AllDouble entries → (j : ℕ) → AllDouble (muRows n entries j)
 unfolding muRows
 rows-double n a zero = none
 rows-double n a (suc j) = all-append (all-append (rows-double n a j) (all-take j (all-drop (triangle j) a))) (zeros-double (n - j))
@@ -49,10 +41,10 @@ unfolding andThen
 after-section (section-fault offset) go next = tt
 after-section (items xs offset) go next = next xs offset
 
-at-end : (surplus : Bool) (end : ℕ) (j : Job) → All IsDouble (j .table .weights) → All IsDouble (j .table .mu) → All IsDouble (j .target) → IsDouble (j .radius) → OfDoubles (cond surplus (layout-fault end) (job j))
+at-end : (surplus : Bool) (end : ℕ) (j : Job) → AllDouble (j .table .weights) → AllDouble (j .table .mu) → AllDouble (j .target) → T (fits binary64 (j .radius)) → OfDoubles (cond surplus (layout-fault end) (job j))
 at-end true end j w m t r = tt
 at-end false end j w m t r =
-    (and-i (allDoubles (j .table .weights)) _ (all-doubles w) (and-i (allDoubles (j .table .mu)) (allDoubles (j .target)) (all-doubles m) (all-doubles t)), r)
+    (and-i (allDoubles (j .table .weights)) _ (doubles-tested w) (and-i (allDoubles (j .table .mu)) (allDoubles (j .target)) (doubles-tested m) (doubles-tested t)), r)
 
 layout-doubles : (input : List ℕ) → OfDoubles (jobOf input)
 unfolding jobOf

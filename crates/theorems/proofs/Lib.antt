@@ -49,6 +49,7 @@ pub mod SamePlanes
 pub mod SameChecks
 pub mod SameCalls
 -- ---- a job's bytes
+pub mod Doubles
 pub mod EncodedSections
 pub mod EncodedRows
 pub mod EncodedJobs
