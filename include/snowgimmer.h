@@ -27,7 +27,7 @@
  *
  * ANSWERS. Every function but snowgimmer_round_away answers 0 if it succeeded, and else the number of the refusal, and
  * always writes its report through first, second and real. Where a function or a refusal has no use for one of them it
- * holds 0.
+ * holds 0. snowgimmer_check_entry answers a verdict so far, 0, 3 or 4, or another number that it is handed.
  *
  *   number                  first              second   real
  *    0                      as each function says below
@@ -66,9 +66,9 @@
 #include <stdint.h>
 
 #define SNOWGIMMER_VERSION_MAJOR 0
-#define SNOWGIMMER_VERSION_MINOR 3
+#define SNOWGIMMER_VERSION_MINOR 4
 #define SNOWGIMMER_VERSION_PATCH 0
-#define SNOWGIMMER_VERSION "0.3.0"
+#define SNOWGIMMER_VERSION "0.4.0"
 
 /* The largest n. */
 #define SNOWGIMMER_LARGEST_DIMENSION 23
@@ -107,7 +107,7 @@ enum snowgimmer_refusal {
     SNOWGIMMER_CHANGED_RANGE = 20
 };
 
-/* The name of an answer as in the table above, "Success" of 0, and "Unknown" of a number that no function gives. */
+/* The name of an answer as in the table above, "Success" of 0, and "Unknown" of a number that is not there. */
 static inline const char *snowgimmer_refusal_name(uint32_t number) {
     switch (number) {
     case SNOWGIMMER_SUCCESS: return "Success";
@@ -190,6 +190,29 @@ uint32_t snowgimmer_distance(const double *weights, size_t weights_len, const do
  * a distance that means nothing. Refused: 19; 20, for coordinate r too. Stack: below 1 kB. Since 0.2.0. */
 uint32_t snowgimmer_change_reference(int64_t *point, size_t point_len, size_t r, uint64_t *first, uint64_t *second,
     double *real);
+
+/* Checks a table's entries, refusals 3 and 4, one at a time, so that a table can be checked while it is being received.
+ * number and at are the verdict so far: what the call for the entry before answered and told in first; 0 and 0 at the
+ * start. index is the entry's, j*n+i, and entry its value:
+ *
+ *     uint32_t number = 0;
+ *     uint64_t first = 0, second;
+ *     double real;
+ *     for each entry that arrives:
+ *         number = snowgimmer_check_entry(number, first, j*n+i, entry, &first, &second, &real);
+ *
+ * The answer is the verdict on all entries so far: 0, they pass; 3, one is not finite; 4, all are finite and one is
+ * above 2^52 in magnitude. first is the index of the first such entry, and 0 with an answer 0. Hand over the entries
+ * with j > i and no others, by rising index: then the verdict after the last one is the refusal, 3, 4 or none, that
+ * every call on the table gives once its lengths are right. 2 comes before them and the others after: these stay the
+ * calls' own, and each call still checks the whole table. A 3 is final: the rest need not be received. A 4 becomes 3 if
+ * a later entry is not finite. If the indices do not rise, first is that of the first such entry handed over.
+ *
+ * Any other number is no verdict of this check: it is answered again, with at in first, so that no refusal that is
+ * handed in gets lost. Where number is 0, at is not looked at, and no index is out of range. Stack: below 1 kB. Since
+ * 0.4.0. */
+uint32_t snowgimmer_check_entry(uint32_t number, uint64_t at, size_t index, double entry, uint64_t *first,
+    uint64_t *second, double *real);
 
 #ifdef __cplusplus
 }

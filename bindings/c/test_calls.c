@@ -1,4 +1,4 @@
-/* Every function and every number but 17, which no call gives, through the header as C99 and as C++. It prints what
+/* Every function and every refusal but 17, which never comes, through the header as C99 and as C++. It prints what
  * differs; tools/test_install compiles and runs it. */
 #include <float.h>
 #include <math.h>
@@ -9,6 +9,7 @@
 
 #define N 2
 #define LEVELS 3
+#define MOST_LEVELS 6
 #define PLACES 256
 #define MOST (SNOWGIMMER_LARGEST_LIST + 1)
 #define LONG 65
@@ -227,6 +228,116 @@ static void references(void) {
     change("65 coordinates, twice", after, LONG, 2, SNOWGIMMER_SUCCESS, 0, before);
 }
 
+/* check_entry, which writes its report whatever it held */
+static uint32_t check_entry(uint32_t number, uint64_t at, size_t index, double entry) {
+    first = second = 7;
+    real = 7.0;
+    return snowgimmer_check_entry(number, at, index, entry, &first, &second, &real);
+}
+
+/* One entry after a verdict of this check, at the ends of the ranges. */
+static void verdicts(void) {
+    const double limit = SNOWGIMMER_COORD_LIMIT;
+    const double passing[] = {0.0, -0.0, 0.5, limit, -limit}, not_finite[] = {HUGE_VAL, -HUGE_VAL, NAN};
+    const double above[] = {4503599627370497.0, -4503599627370497.0, 2.0 * limit, DBL_MAX, -DBL_MAX};
+    const size_t indices[] = {0, 7, SIZE_MAX};
+    for (int i = 0; i < 3; i++) {
+        const size_t index = indices[i];
+        for (int k = 0; k < 5; k++) {
+            expect("passes", check_entry(0, 99, index, passing[k]), SNOWGIMMER_SUCCESS, 0, 0, 0.0);
+            expect("passes after 4", check_entry(4, 3, index, passing[k]), SNOWGIMMER_MU_RANGE, 3, 0, 0.0);
+            expect("passes after 3", check_entry(3, 3, index, passing[k]), SNOWGIMMER_MU_NON_FINITE, 3, 0, 0.0);
+            expect("above", check_entry(0, 99, index, above[k]), SNOWGIMMER_MU_RANGE, index, 0, 0.0);
+            expect("above after 4", check_entry(4, 3, index, above[k]), SNOWGIMMER_MU_RANGE, 3, 0, 0.0);
+            expect("above after 3", check_entry(3, 3, index, above[k]), SNOWGIMMER_MU_NON_FINITE, 3, 0, 0.0);
+        }
+        for (int k = 0; k < 3; k++) {
+            expect("not finite", check_entry(0, 99, index, not_finite[k]), SNOWGIMMER_MU_NON_FINITE, index, 0, 0.0);
+            expect("and after 4", check_entry(4, 3, index, not_finite[k]), SNOWGIMMER_MU_NON_FINITE, index, 0, 0.0);
+            expect("and after 3", check_entry(3, 3, index, not_finite[k]), SNOWGIMMER_MU_NON_FINITE, 3, 0, 0.0);
+        }
+    }
+}
+
+/* Any other number comes back, with at, whatever the entry. */
+static void other_numbers(void) {
+    const uint32_t numbers[] = {1, 2, 5, 17, UINT32_MAX};
+    const double values[] = {0.5, 1e300, HUGE_VAL, NAN};
+    for (int i = 0; i < 5; i++) {
+        for (int k = 0; k < 4; k++) {
+            expect("another number", check_entry(numbers[i], 99, 3, values[k]), numbers[i], 99, 0, 0.0);
+            expect("largest at", check_entry(numbers[i], UINT64_MAX, 3, values[k]), numbers[i], UINT64_MAX, 0, 0.0);
+        }
+    }
+}
+
+/* What a call tells is what the next one is handed. */
+static void one_after_another(void) {
+    first = 0;
+    uint32_t number = snowgimmer_check_entry(0, first, 3, 9007199254740992.0, &first, &second, &real);
+    expect("n = 3, 2^53", number, SNOWGIMMER_MU_RANGE, 3, 0, 0.0);
+    number = snowgimmer_check_entry(number, first, 6, 0.0, &first, &second, &real);
+    expect("n = 3, 0", number, SNOWGIMMER_MU_RANGE, 3, 0, 0.0);
+    number = snowgimmer_check_entry(number, first, 7, NAN, &first, &second, &real);
+    expect("n = 3, NaN", number, SNOWGIMMER_MU_NON_FINITE, 7, 0, 0.0);
+    number = snowgimmer_check_entry(0, 0, 12, NAN, &first, &second, &real);
+    expect("n = 4, NaN", number, SNOWGIMMER_MU_NON_FINITE, 12, 0, 0.0);
+    number = snowgimmer_check_entry(number, first, 13, HUGE_VAL, &first, &second, &real);
+    expect("n = 4, infinity", number, SNOWGIMMER_MU_NON_FINITE, 12, 0, 0.0);
+}
+
+/* A number below the limit, of a simple generator. */
+static uint32_t draw(uint32_t limit) {
+    static uint64_t state = 1;
+    state = state * UINT64_C(6364136223846793005) + UINT64_C(1442695040888963407);
+    return (uint32_t)(state >> 33) % limit;
+}
+
+/* The verdict is what two calls on the table tell, whose other values pass. */
+static void expect_told(uint32_t verdict, uint64_t at, size_t n, const double *entries) {
+    const double ones[MOST_LEVELS] = {1.0, 1.0, 1.0, 1.0, 1.0, 1.0}, zero[MOST_LEVELS] = {0.0};
+    double coefficients[MOST_LEVELS] = {0.0};
+    int64_t out[MOST_LEVELS];
+    uint32_t number = snowgimmer_nearest(ones, n, entries, n * n, zero, n, out, n, 0.0, 100, &first, &second, &real);
+    expect_true("verdict of nearest", number == verdict && (number == SNOWGIMMER_SUCCESS || first == at));
+    number = snowgimmer_nearest_plane(ones, n, entries, n * n, coefficients, n, out, n, &first, &second, &real);
+    expect("verdict of nearest plane", number, verdict, at, 0, 0.0);
+}
+
+/* A table with faults, also where it is not read: after each entry the verdict is that on the table whose later entries
+ * are 0. Gives the last verdict. */
+static uint32_t drawn_table(size_t n) {
+    const double faults[] = {NAN, HUGE_VAL, -HUGE_VAL, 1e300, -1e16, SNOWGIMMER_COORD_LIMIT, -SNOWGIMMER_COORD_LIMIT};
+    const uint32_t sound = 1 + draw(20);
+    double all[MOST_LEVELS * MOST_LEVELS], so_far[MOST_LEVELS * MOST_LEVELS];
+    for (size_t k = 0; k < n * n; k++) {
+        all[k] = draw(sound) == 0 ? faults[draw(7)] : draw(1000) / 1000.0 - 0.5;
+        so_far[k] = k / n > k % n ? 0.0 : all[k];
+    }
+    uint32_t verdict = SNOWGIMMER_SUCCESS;
+    uint64_t at = 0;
+    for (size_t j = 1; j < n; j++) {
+        for (size_t i = 0; i < j; i++) {
+            const size_t index = j * n + i;
+            so_far[index] = all[index];
+            verdict = check_entry(verdict, at, index, all[index]);
+            at = first;
+            expect_told(verdict, at, n, so_far);
+        }
+    }
+    expect_told(verdict, at, n, all);
+    return verdict;
+}
+
+static void entries(void) {
+    verdicts();
+    other_numbers();
+    one_after_another();
+    int told[5] = {0};
+    for (size_t i = 0; i < 2000; i++) told[drawn_table(2 + i % 5)]++;
+    expect_true("each verdict comes often", told[0] > 100 && told[3] > 100 && told[4] > 100);
+}
+
 static void names(void) {
     static const char *const all[] = {"Success", "Unknown", "TableSize", "MuNonFinite", "MuRange", "WeightRange",
         "LengthMismatch", "NonFinite", "InvalidRadius", "BudgetRange", "CandidateLength", "CandidateDistance",
@@ -245,6 +356,7 @@ int main(void) {
     no_dimension();
     seeds();
     references();
+    entries();
     names();
     if (differences == 0) printf("all as expected\n");
     return differences != 0;

@@ -26,9 +26,9 @@ from fractions import Fraction
 import snowgimmer
 from snowgimmer import (
     BudgetExhausted, BudgetRange, CandidateDistance, CandidateLength, CandidateOutside, ChangedRange, InvalidRadius,
-    LengthMismatch, ListFull, MuNonFinite, MuRange, NonFinite, OutsideRadius, ReferenceIndex, TableSize, WeightRange,
-    WidenedRadius, change_reference, list_points, nearest, nearest_ml, nearest_plane, nearest_seeded, round_away,
-    round_coefficients, triangular_distance)
+    LengthMismatch, ListFull, MuNonFinite, MuRange, NonFinite, OutsideRadius, ReferenceIndex, TableSize, TriangleCheck,
+    WeightRange, WidenedRadius, change_reference, list_points, nearest, nearest_ml, nearest_plane, nearest_seeded,
+    round_away, round_coefficients, triangular_distance)
 
 HERE = os.path.dirname(os.path.abspath(__file__))
 
@@ -248,6 +248,99 @@ class References(Test):
             self.assertEqual(point, before)
 
 
+class Entries(Test):
+    """The check of entries one at a time."""
+
+    def verdict(self, check):
+        """The number and the index of a check's refusal, or 0 and None."""
+        if check.refusal is None:
+            return 0, None
+        self.assertIsInstance(check.refusal, (MuNonFinite, MuRange))
+        return check.refusal.number, check.refusal.index
+
+    def verdicts(self, *entries):
+        """The verdict after each of the entries."""
+        found, check = [], TriangleCheck()
+        for index, entry in entries:
+            check = check.feed(index, entry)
+            found.append(self.verdict(check))
+        return found
+
+    def test_one_entry(self):
+        self.assertIsNone(TriangleCheck().refusal)
+        for index in 0, 3, 2**64 - 1:
+            for entry in 0.0, -0.0, 0.5, 2.0**52, -2.0**52, 2**52, Fraction(1, 2):
+                self.assertEqual(self.verdicts((index, entry)), [(0, None)])
+            for entry in 4503599627370497.0, -4503599627370497.0, 2**52 + 1, 2.0**53, LARGEST, -LARGEST:
+                self.assertEqual(self.verdicts((index, entry)), [(4, index)])
+            for entry in math.inf, -math.inf, math.nan, -math.nan:
+                self.assertEqual(self.verdicts((index, entry)), [(3, index)])
+
+    def test_one_after_another(self):
+        self.assertEqual(self.verdicts((3, 2.0**53), (6, 0), (7, math.nan)), [(4, 3), (4, 3), (3, 7)])
+        self.assertEqual(self.verdicts((12, math.nan), (13, math.inf)), [(3, 12), (3, 12)])
+        self.assertEqual(self.verdicts((3, 0.5), (6, -2.0**53), (7, 1e300)), [(0, None), (4, 6), (4, 6)])
+        self.assertEqual(self.verdicts((3, math.nan), (6, 1e300), (7, 0)), [(3, 3)] * 3)
+        self.assertEqual(self.verdicts((3, 1e300), (6, -math.inf), (7, 1e300)), [(4, 3), (3, 6), (3, 6)])
+        self.assertEqual(self.verdicts((2**64 - 1, 1e300), (5, 0)), [(4, 2**64 - 1)] * 2)
+
+    def test_in_another_order(self):
+        self.assertEqual(self.verdicts((7, 1e300), (3, 1e300)), [(4, 7), (4, 7)])
+        self.assertEqual(self.verdicts((7, math.nan), (3, math.nan)), [(3, 7), (3, 7)])
+
+    def test_a_value(self):
+        start = TriangleCheck()
+        before = start.feed(3, 1e300)
+        after = before.feed(6, math.nan)
+        self.assertEqual([self.verdict(check) for check in (start, before, after)], [(0, None), (4, 3), (3, 6)])
+        self.assertEqual({start, TriangleCheck(), start.feed(1, 0.5)}, {start})
+        self.assertEqual(len({start, before, after, before.feed(6, math.inf)}), 3)
+        self.assertNotEqual(after, (3, 6))
+        for again in copy.copy(after), pickle.loads(pickle.dumps(after)):
+            self.assertEqual(again, after)
+        for name in "refusal", "number":
+            with self.assertRaises(AttributeError):
+                setattr(after, name, None)
+        self.wrong(TypeError, "argument", TriangleCheck, 3)
+        self.assertEqual(repr(start), "<TriangleCheck refusal=None>")
+        self.assertIn("mu[6], counted row by row, is not finite", repr(after))
+        self.refused(MuNonFinite, {"index": 6}, self.raised, after)
+        self.refused(MuRange, {"index": 3}, self.raised, before)
+
+    def raised(self, check):
+        raise check.refusal
+
+    def told(self, mu, n):
+        """The verdict of two calls on a table whose other values pass."""
+        found = []
+        for call in (lambda: nearest([1] * n, mu, [0] * n, 0, 100)), (lambda: nearest_plane([1] * n, mu, [0] * n)):
+            try:
+                call()
+                found.append((0, None))
+            except (MuNonFinite, MuRange) as refusal:
+                found.append((refusal.number, refusal.index))
+        self.assertEqual(found[0], found[1])
+        return found[0]
+
+    def test_drawn_tables(self):
+        """After each entry the verdict is that on the table whose later entries are 0; some not read are faulty."""
+        draw = random.Random(5)
+        faults = math.nan, math.inf, -math.inf, 1e300, -1e16, 2.0**52, -2.0**52
+        last = []
+        for n in list(range(2, 7)) * 40:
+            faulty = draw.choice((0.02, 0.1, 0.5))
+            mu = [draw.choice(faults) if draw.random() < faulty else draw.uniform(-0.5, 0.5) for _ in range(n * n)]
+            below = [j * n + i for j in range(n) for i in range(j)]
+            so_far, check = [0.0 if k in below else entry for k, entry in enumerate(mu)], TriangleCheck()
+            for index in below:
+                so_far[index] = mu[index]
+                check = check.feed(index, mu[index])
+                self.assertEqual(self.verdict(check), self.told(so_far, n))
+            last.append(self.verdict(check)[0])
+        for number in 0, 3, 4:
+            self.assertGreater(last.count(number), 10)
+
+
 class Refusals(Test):
     def test_tables(self):
         self.refused(TableSize, {"weights": 24}, nearest, [1] * 24, [0] * 576, [0] * 24, 1, 9)
@@ -332,6 +425,19 @@ class Plain(Test):
         self.wrong(ValueError, "point[1] is 9223372036854775808", change_reference, [0, 2**63], 0)
         self.wrong(TypeError, "point[0] is 1.0, of type float", change_reference, [1.0, 2], 0)
         self.wrong(TypeError, "point is of type str", change_reference, "12", 0)
+
+    def test_entries(self):
+        check = TriangleCheck()
+        for index in -1, 2**64:
+            self.wrong(ValueError, f"index is {index}", check.feed, index, 0.5)
+        for index in 3.0, True, "3", None, [3]:
+            self.wrong(TypeError, "index is", check.feed, index, 0.5)
+        for entry in "0.5", None, True, [0.5]:
+            self.wrong(TypeError, "entry is", check.feed, 3, entry)
+        self.wrong(ValueError, "entry is 9007199254740993", check.feed, 3, 2**53 + 1)
+        self.wrong(ValueError, "entry is Decimal('0.1')", check.feed, 3, Decimal("0.1"))
+        self.wrong(ValueError, "above the largest double", check.feed, 3, 10**400)
+        self.assertEqual(check, TriangleCheck())
 
     def test_doubles(self):
         for radius in "1", None, 1j, True, [1.0]:
@@ -430,6 +536,7 @@ class Numpy(Test):
         self.assertEqual(nearest(*table, 1, 9).point, (0, 0))
         self.assertEqual(nearest_seeded(*E, numpy.array([2]), numpy.float64(2.25), numpy.int64(100)).point, (0,))
         self.assertEqual(change_reference(numpy.array([1, 2]), numpy.int64(0)), (-1, 1))
+        self.assertEqual(TriangleCheck().feed(numpy.int64(3), numpy.float64("nan")).refusal.index, 3)
         self.wrong(TypeError, "of type bool", nearest, numpy.array([True]), [0], [0], 1, 9)
         self.wrong(TypeError, "real number", nearest, [numpy.True_], [0], [0], 1, 9)
         self.wrong(TypeError, "no dimension", nearest, numpy.array(1.0), [0], [0], 1, 9)

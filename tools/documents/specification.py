@@ -161,13 +161,19 @@ def first_fault(number, values, fault, indices):
             raise Refusal(number, i)
 
 
+def check_entries(entries):
+    """3, then 4, of entries mu, each with its index, in the order in which they are read."""
+    for number, fault in (3, lambda x: not math.isfinite(x)), (4, lambda x: abs(x) > COORD_LIMIT):
+        for index, entry in entries:
+            if fault(entry):
+                raise Refusal(number, index)
+
+
 def check_table(weights, mu):
     n = len(weights)
     if n > LARGEST_DIMENSION or len(mu) != n * n:
         raise Refusal(2, n)
-    read = [j * n + i for j in range(n) for i in range(j)]
-    first_fault(3, mu, lambda x: not math.isfinite(x), read)
-    first_fault(4, mu, lambda x: abs(x) > COORD_LIMIT, read)
+    check_entries([(j * n + i, mu[j * n + i]) for j in range(n) for i in range(j)])
     first_fault(5, weights, lambda w: not (math.isfinite(w) and w > 0), range(n))
 
 
@@ -305,6 +311,15 @@ def change_reference(point, r):
     check_index(len(point), r)
     check_changed(changed(point, r))
     point[:] = changed(point, r)
+    return ()
+
+
+def check_entry(number, at, index, entry):
+    """3 and 4 of one entry more. Of those so far the one that the verdict names is enough, if it names one."""
+    if number not in (0, 3, 4):
+        raise Refusal(number, at)
+    named = {0: [], 3: [(at, math.nan)], 4: [(at, 2 * COORD_LIMIT)]}
+    check_entries(named[number] + [(index, entry)])
     return ()
 
 

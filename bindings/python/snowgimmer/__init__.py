@@ -39,6 +39,8 @@ In positioning a point's integers are cycles against one reference satellite. Wh
 
     >>> change_reference((0, 1), reference=1)
     (-1, -1)
+
+A `TriangleCheck` checks a table while it arrives, entry by entry, from a file or over a radio link.
 """
 
 import ctypes
@@ -52,7 +54,7 @@ from .refusals import (
     TableSize, WeightRange, WidenedRadius)
 from .refusals import refusal as _refusal
 
-__version__ = "0.3.0"
+__version__ = "0.4.0"
 
 LARGEST_DIMENSION = 23
 LARGEST_LIST = 4096
@@ -60,8 +62,8 @@ LARGEST_BUDGET = 2**60
 
 __all__ = [
     "nearest", "nearest_seeded", "nearest_ml", "list_points", "triangular_distance", "nearest_plane",
-    "round_coefficients", "round_away", "change_reference", "Nearest", "Listed", "ListedPoint", "Plane",
-    "LARGEST_DIMENSION", "LARGEST_LIST", "LARGEST_BUDGET", "Refusal", "TableSize", "MuNonFinite", "MuRange",
+    "round_coefficients", "round_away", "change_reference", "TriangleCheck", "Nearest", "Listed", "ListedPoint",
+    "Plane", "LARGEST_DIMENSION", "LARGEST_LIST", "LARGEST_BUDGET", "Refusal", "TableSize", "MuNonFinite", "MuRange",
     "WeightRange", "LengthMismatch", "NonFinite", "InvalidRadius", "BudgetRange", "CandidateLength",
     "CandidateDistance", "CandidateOutside", "WidenedRadius", "ListSize", "BudgetExhausted", "OutsideRadius", "NoSeed",
     "ListFull", "ReferenceIndex", "ChangedRange",
@@ -116,15 +118,20 @@ class _Table:
         return (ctypes.c_int64 * self.n)()
 
 
-def _call(name, slices, *numbers):
-    """Calls the library with slices, each with its length, and numbers; gives its report, or raises the refusal."""
+def _answer(name, slices, *numbers):
+    """Calls the library with slices, each with its length, and numbers; gives its answer and its report."""
     report = ctypes.c_uint64(), ctypes.c_uint64(), ctypes.c_double()
     lent = [part for each in slices for part in (each, len(each))]
     number = getattr(_loaded, f"snowgimmer_{name}")(*lent, *numbers, *map(ctypes.byref, report))
-    first, second, real = (each.value for each in report)
+    return (number, *(each.value for each in report))
+
+
+def _call(name, slices, *numbers):
+    """The same; gives the report, or raises the refusal."""
+    number, *report = _answer(name, slices, *numbers)
     if number != 0:
-        raise _refusal(number, first, second, real)
-    return first, second, real
+        raise _refusal(number, *report)
+    return report
 
 
 def _budget(budget):
@@ -232,3 +239,59 @@ def change_reference(point, reference):
     changed, reference = _values.integers("point", point), _values.whole("reference", reference, 0, 2**64 - 1)
     _call("change_reference", (changed,), reference)
     return tuple(changed)
+
+
+class TriangleCheck:
+    """The check of a table's entries, refusals 3 and 4, one at a time, so that a table can be checked while it arrives.
+
+    Feed the entries mu[j][i] with j > i, which are those that the calls read, and no others, by rising index j*n + i:
+    row 1, then row 2, and so on. A check is a value, and `feed` gives the next one:
+
+        >>> n, check = 3, TriangleCheck()
+        >>> arriving = iter([0.5, 2.0**53, float("nan")])
+        >>> for j in range(1, n):
+        ...     for i in range(j):
+        ...         check = check.feed(j*n + i, next(arriving))
+        ...         print(check.refusal)
+        None
+        refused 4, MuRange: mu[6], counted row by row, is above 2^52 in magnitude
+        refused 3, MuNonFinite: mu[7], counted row by row, is not finite
+
+    After the last entry the verdict is the refusal, 3, 4 or none, that every call on the table raises once its lengths
+    are right: 2 comes before them and the others after. These stay the calls' own, and each call still checks the whole
+    table. Since 0.4.0.
+    """
+
+    __slots__ = ("_number", "_first")
+
+    def __init__(self):
+        # what the library answered and told in first: 0 and 0, or 3 or 4 and an index
+        self._number, self._first = 0, 0
+
+    def feed(self, index, entry):
+        """The check with one more entry: its index j*n + i among the n*n, and its value, an infinity or a NaN too."""
+        index, entry = _values.whole("index", index, 0, 2**64 - 1), _values.double("entry", entry)
+        fed = TriangleCheck()
+        fed._number, fed._first, _, _ = _answer("check_entry", (), self._number, self._first, index, entry)
+        return fed
+
+    @property
+    def refusal(self):
+        """The verdict on the entries so far: None, or the refusal, which is not raised.
+
+        MuNonFinite if an entry is not finite: it is final, and the rest of the table need not be received. MuRange if
+        all are finite and one is above 2**52 in magnitude: it becomes MuNonFinite if a later entry is not finite. Each
+        has the index of the first such entry; if the indices did not rise, of the first that was fed.
+        """
+        return _refusal(self._number, self._first, 0, 0.0) if self._number else None
+
+    def __repr__(self):
+        return f"<TriangleCheck refusal={self.refusal!r}>"
+
+    def __eq__(self, other):
+        if not isinstance(other, TriangleCheck):
+            return NotImplemented
+        return (self._number, self._first) == (other._number, other._first)
+
+    def __hash__(self):
+        return hash((self._number, self._first))

@@ -11,6 +11,7 @@ INTEGERS = (ctypes.POINTER(ctypes.c_int64), ctypes.c_size_t)
 TABLE = DOUBLES + DOUBLES
 REPORT = (ctypes.POINTER(ctypes.c_uint64), ctypes.POINTER(ctypes.c_uint64), ctypes.POINTER(ctypes.c_double))
 RADIUS, BUDGET, INDEX = (ctypes.c_double,), (ctypes.c_uint64,), (ctypes.c_size_t,)
+VERDICT, ENTRY = (ctypes.c_uint32, ctypes.c_uint64), (ctypes.c_double,)
 
 ADVICE = (f"Let the variable SNOWGIMMER_LIB name the folder that holds {NAME}, or its file. In the repository "
           "`tools/install --build` makes it, and the module finds it there")
@@ -25,6 +26,7 @@ ARGUMENTS = {
     "nearest_plane": TABLE + DOUBLES + INTEGERS,
     "distance": TABLE + DOUBLES + INTEGERS,
     "change_reference": INTEGERS + INDEX,
+    "check_entry": VERDICT + INDEX + ENTRY,
 }
 
 

@@ -117,4 +117,14 @@ unsafe extern "C" {
         second: *mut u64,
         real: *mut f64,
     ) -> u32;
+
+    pub(crate) fn snowgimmer_check_entry(
+        number: u32,
+        at: u64,
+        index: usize,
+        entry: f64,
+        first: *mut u64,
+        second: *mut u64,
+        real: *mut f64,
+    ) -> u32;
 }

@@ -32,9 +32,9 @@
 //! ```
 //!
 //! [`Table`] gives points by value. The functions beside it write to slices that they are lent, and have the names and
-//! arguments of the Rust original, which has no [`change_reference`]. Every one is that of the proved library: for all
-//! inputs its answer is the one that the library's contract fixes, and a refusal leaves every slice that it was lent as
-//! it was.
+//! arguments of the Rust original, which has no [`change_reference`]. [`TriangleCheck`] checks a table's entries one at
+//! a time, while the table is being received. Every one is that of the proved library: for all inputs its answer is the
+//! one that the library's contract fixes, and a refusal leaves every slice that it was lent as it was.
 //!
 //! The crate needs no standard library, allocates nothing and keeps nothing between calls. The variable SNOWGIMMER_LIB
 //! names the folder of `libsnowgimmer.a`, or the file, while a program is built.
@@ -52,9 +52,11 @@
 mod ffi;
 mod refusal;
 mod table;
+mod triangle;
 
 pub use refusal::Refusal;
 pub use table::{List, Nearest, Point, Table};
+pub use triangle::TriangleCheck;
 
 /// The largest n.
 pub const LARGEST_DIMENSION: usize = 23;

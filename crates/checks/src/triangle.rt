@@ -1,17 +1,19 @@
-// The check of the triangle, 3 and 4 in one pass: a state that is fed an entry at a time.
+// The check of the triangle, 3 and 4 in one pass: a state that is fed an entry at a time, by rising index. Every state can
+// be handed in; the start is `Clean`.
 ghost use mathlib.Core.Path.{_≡_};
 ghost use Prim.Native.Nat.{_+_, _≤_};
 ghost use lib.ListN.{length};
-ghost use Rattle.definitions.specs.Checks.{countFrom, readIndices};
+ghost use Rattle.definitions.specs.Checks.{pass, countFrom, readIndices};
+ghost use Rattle.definitions.specs.Entries.{entryOf, fed, fedAll, entriesAt, entriesVerdict};
 ghost use Rattle.definitions.specs.Lent.{atEntry};
 ghost use Rattle.refusals.specs.Numbers.{verdict};
-ghost use Rattle.checks.specs.Triangle.{fed, fedAll, triangleVerdict, entriesVerdict, Square};
+ghost use Rattle.checks.specs.Triangle.{triangleVerdict, Square};
 use crate::single::beyond_limit;
 use refusals::Refusal;
 use refusals::Verdict;
 use rounding::is_finite;
 
-// What has been seen of the entries so far: the first index that is not finite or, where there is none, the first
+// What has been seen of the entries so far: the index of the first that is not finite or, where there is none, of the first
 // above 2^52 in magnitude.
 pub enum Triangle {
     Clean,
@@ -21,7 +23,7 @@ pub enum Triangle {
 
 // One entry more, with its index in the n·n slice.
 pub fn feed(s: Triangle, index: usize, x: f64) -> Triangle
-    ensures { λ r. ⌜ r ≡ fed s index x ⌝ }
+    ensures { λ r. ⌜ triangleVerdict r ≡ fed (triangleVerdict s) (entryOf index x) ⌝ }
 {
     match s {
         Triangle::NonFinite(_) => return s,
@@ -43,7 +45,7 @@ pub fn feed(s: Triangle, index: usize, x: f64) -> Triangle
     }
 }
 
-// 3 or 4, as the entries so far ask.
+// The verdict that the state stands for.
 pub fn triangle_verdict(s: Triangle) -> Verdict
     ensures { λ r. ⌜ verdict r ≡ triangleVerdict s ⌝ }
 {
@@ -57,7 +59,7 @@ pub fn triangle_verdict(s: Triangle) -> Verdict
 // The entries of mu from `first` on, so many, in turn.
 fn feed_row(mu: &[f64], first: usize, count: usize, start: Triangle) -> Triangle
     requires { ⌜ first + count ≤ length (now mu) ⌝ }
-    ensures { λ r. ⌜ r ≡ fedAll (atEntry mu) (countFrom first count) start ⌝ }
+    ensures { λ r. ⌜ triangleVerdict r ≡ fedAll (triangleVerdict start) (entriesAt (atEntry mu) (countFrom first count)) ⌝ }
 {
     let mut s = start;
     let mut k = 0;
@@ -71,7 +73,7 @@ fn feed_row(mu: &[f64], first: usize, count: usize, start: Triangle) -> Triangle
 // All entries that are read: row j has j, from j·n on.
 fn feed_rows(mu: &[f64], n: usize) -> Triangle
     requires { ⌜ Square n (now mu) ⌝ }
-    ensures { λ r. ⌜ r ≡ fedAll (atEntry mu) (readIndices n n) Triangle.Clean ⌝ }
+    ensures { λ r. ⌜ triangleVerdict r ≡ fedAll pass (entriesAt (atEntry mu) (readIndices n n)) ⌝ }
 {
     let mut s = Triangle::Clean;
     let mut j = 0;

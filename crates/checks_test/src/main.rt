@@ -90,6 +90,7 @@ fn triangles() {
     entries(LIMIT, -LIMIT, -0.0, LARGEST);
     entries(BEYOND, 0.0, 0.0, 0.0);
     entries(0.0, 0.0, -infinity(), 0.0);
+    entries(0.0, BEYOND, 0.0, nan());
     newline();
 }
 
@@ -347,6 +348,8 @@ fn main() {
     large_table_sizes();
     entries_fed(1.0, BEYOND, -BEYOND, 0.0);
     entries_fed(LARGEST, nan(), infinity(), BEYOND);
+    entries_fed(nan(), infinity(), LARGEST, 0.0);
+    entries_fed(LIMIT, -LIMIT, BEYOND, -infinity());
     triangles();
     weights();
     tables();

@@ -1,4 +1,4 @@
--- The bench cases of docs/SPECIFICATION.md, A to L, the case "distance" and those of `change_reference`, proved together by one evaluation of the definitions. Case I's list is taken with a budget of 6 (docs/DECISIONS.md).
+-- The bench cases of docs/SPECIFICATION.md, A to L, the case "distance", those of `change_reference` and of entries one at a time, proved together by one evaluation of the definitions. Case I's list is taken with a budget of 6 (docs/DECISIONS.md).
 -- Assumes nothing.
 use mathlib.Core.Path.{_≡_, refl}
 use Prim.Native.Nat.{ℕ, zero, suc, _+_, _-_, _/_, _%_, _^_}
@@ -6,14 +6,15 @@ use mathlib.Core.Bool.{true, false}
 use mathlib.Core.List.{List, [], _∷_, _++_, map}
 use lib.ListN.{length, replicate}
 use lib.IntN.{ℤ, pos, negsuc}
-use lib.Ieee.{Float, fin, binary64, toBits}
+use lib.Ieee.{Float, fin, inf, nan, binary64, toBits}
 use Rattle.rounding.specs.Integers.{roundAway}
-use Rattle.definitions.specs.Table.{Table, plusZero, one}
+use Rattle.definitions.specs.Table.{Table, plusZero, one, coordLimit, largestDimension}
 use Rattle.definitions.specs.Distance.{partial}
 use Rattle.definitions.specs.Admitted.{admitted}
 use Rattle.definitions.specs.Listing.{ListPoint}
-use Rattle.definitions.specs.Refusals.{outsideRadius, budgetExhausted, nonFinite, candidateOutside, budgetRange, referenceIndex, changedRange}
-use Rattle.definitions.specs.Checks.{Verdict, pass, refuse}
+use Rattle.definitions.specs.Refusals.{muNonFinite, muRange, outsideRadius, budgetExhausted, nonFinite, candidateOutside, budgetRange, referenceIndex, changedRange}
+use Rattle.definitions.specs.Checks.{Verdict, pass, refuse, firstRefusal, tableChecks}
+use Rattle.definitions.specs.Entries.{Entry, entryOf, fedAll}
 use Rattle.definitions.specs.Calls.{Answer, found, refused, NearestPoint, ListAnswer, nearest, nearestSeeded, nearestMl, list}
 use Rattle.definitions.specs.Reference.{changeReference, changeOutput}
 use Rattle.definitions.specs.JobText.{text, jobOutput}
@@ -208,6 +209,55 @@ referenceAnswers =
     ∷ (refuse referenceIndex, pos 0 ∷ lowest ∷ [])
     ∷ []
 
+-- ---- entries one at a time, and tables of them
+abbrev twoTo53 : Float
+twoTo53 = fin false 1 (pos 53)
+
+-- 2^52 + 1, the next double above 2^52
+abbrev beyond : Float
+beyond = fin false (2 ^ 52 + 1) (pos 0)
+
+abbrev fromStart : List Entry → Verdict
+fromStart es = fedAll pass es
+
+abbrev entryCases : List Verdict
+entryCases =
+    fromStart []
+    ∷ fromStart (entryOf 3 twoTo53 ∷ [])
+    ∷ fromStart (entryOf 3 twoTo53 ∷ entryOf 6 beyond ∷ [])
+    ∷ fromStart (entryOf 3 twoTo53 ∷ entryOf 6 beyond ∷ entryOf 7 nan ∷ [])
+    ∷ fromStart (entryOf 12 nan ∷ entryOf 13 (inf false) ∷ [])
+    ∷ fromStart (entryOf 2 coordLimit ∷ entryOf 3 (fin true 1 (pos 52)) ∷ [])
+    ∷ fromStart (entryOf 2 (inf true) ∷ [])
+    ∷ []
+
+abbrev entryAnswers : List Verdict
+entryAnswers =
+    pass
+    ∷ refuse (muRange 3)
+    ∷ refuse (muRange 3)
+    ∷ refuse (muNonFinite 7)
+    ∷ refuse (muNonFinite 12)
+    ∷ pass
+    ∷ refuse (muNonFinite 2)
+    ∷ []
+
+-- n weights 1, with this mu
+abbrev checked : ℕ → List Float → Verdict
+checked n mu = firstRefusal (tableChecks largestDimension (record { weights = replicate n one; mu = mu }))
+
+abbrev tableCases : List Verdict
+tableCases =
+    checked 3 (replicate 3 nan ++ twoTo53 ∷ nan ∷ nan ∷ beyond ∷ nan ∷ nan ∷ [])
+    ∷ checked 4 (replicate 12 plusZero ++ nan ∷ inf false ∷ plusZero ∷ plusZero ∷ [])
+    ∷ checked 2 (nan ∷ nan ∷ twoTo53 ∷ nan ∷ [])
+    ∷ checked 2 (nan ∷ nan ∷ coordLimit ∷ nan ∷ [])
+    ∷ checked 2 (nan ∷ nan ∷ beyond ∷ nan ∷ [])
+    ∷ []
+
+abbrev tableAnswers : List Verdict
+tableAnswers = refuse (muNonFinite 7) ∷ refuse (muNonFinite 12) ∷ refuse (muRange 2) ∷ pass ∷ refuse (muRange 2) ∷ []
+
 -- ---- G as a job: radius 2 and budget 100
 unfoldable pub bytesOf : ℕ → ℕ → List ℕ
 bytesOf zero n = []
@@ -245,11 +295,13 @@ pub record Cases : Type 0 where
   pub none-admitted : map (admitted tableH targetH one) fourVectors ≡ false ∷ false ∷ false ∷ false ∷ []
   pub all-admitted : map (admitted tableH targetH aboveOne) fourVectors ≡ true ∷ true ∷ true ∷ true ∷ []
   pub reference-cases : referenceCases ≡ referenceAnswers
+  pub entry-cases : entryCases ≡ entryAnswers
+  pub table-cases : tableCases ≡ tableAnswers
   pub printed : jobOutput jobG ≡ printedG
   pub printed-empty : jobOutput jobA ≡ printedA
 
 pub cases : Cases
-unfolding nearest list nearestSeeded nearestMl roundAway changeReference changeOutput partial admitted jobOutput text toBits bytesOf joined
+unfolding nearest list nearestSeeded nearestMl roundAway changeReference changeOutput fedAll firstRefusal tableChecks partial admitted jobOutput text toBits bytesOf joined
 cases = record {
   nearest-cases = refl;
   list-cases = refl;
@@ -258,6 +310,8 @@ cases = record {
   none-admitted = refl;
   all-admitted = refl;
   reference-cases = refl;
+  entry-cases = refl;
+  table-cases = refl;
   printed = refl;
   printed-empty = refl;
 }

@@ -10,6 +10,7 @@ pub mod Leaves
 pub mod ListedOrder
 pub mod WalkLeaves
 pub mod Verdicts
+pub mod Entries
 pub mod Tables
 pub mod Passed
 pub mod Answers

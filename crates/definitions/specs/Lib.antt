@@ -12,6 +12,7 @@ pub mod Rows
 pub mod Seeds
 pub mod Refusals
 pub mod Checks
+pub mod Entries
 pub mod Calls
 pub mod Reference
 pub mod JobLayout

@@ -2,3 +2,4 @@
 pub mod Distances
 pub mod DistanceAgrees
 pub mod Slices
+pub mod EntriesInTurn

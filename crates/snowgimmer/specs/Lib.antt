@@ -1,4 +1,5 @@
 -- What the contracts cite.
 pub mod Reports
+pub mod Entries
 pub mod Distance
 pub mod Told

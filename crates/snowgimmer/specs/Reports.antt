@@ -35,7 +35,7 @@ abbrev pub ofCounts : Answer Counts → Report
 ofCounts (found a) = told 0 (a .nodes) (a .points) plusZero
 ofCounts (refused e) = ofRefusal e
 
--- round, nearest_plane and change_reference: nothing more than the success
+-- round, nearest_plane, change_reference and check_entry: nothing more than the success
 abbrev pub ofVerdict : Verdict → Report
 ofVerdict pass = told 0 0 0 plusZero
 ofVerdict (refuse e) = ofRefusal e

@@ -1,19 +1,22 @@
 -- What each exported call tells, leaves in the lent slices, and promises. r is its number and its three values; ′ marks what a slice holds at exit.
 -- The answer that the promises speak of is the definition's, which r tells and the slices hold. Definitions only.
 use mathlib.Core.Path.{_≡_}
-use mathlib.Core.List.{List}
+use mathlib.Core.List.{List, [], _∷_, _++_}
 use Prim.Native.Nat.{ℕ, _≤_}
 use lib.IntN.{ℤ}
 use lib.Ieee.{Float}
 use Rattle.definitions.specs.Table.{Table, dimension}
 use Rattle.definitions.specs.Calls as C
 use Rattle.definitions.specs.Reference.{changeReference, changeOutput}
+use Rattle.definitions.specs.Entries.{Entry, fed, givenVerdict}
 use Rattle.theorems.specs.Promises.{NearestPromises, SeededPromises, MlPromises, ListPromises, RoundPromises, PlanePromises}
 use Rattle.theorems.specs.Reference.{ReferencePromises}
+use Rattle.theorems.specs.Entries.{EntryPromises}
 use Rattle.listing.specs.View.{countsOf}
 use Rattle.snowgimmer.specs.declared.report.Report.{Report}
 use Rattle.snowgimmer.specs.Reports.{ofNearest, ofCounts, ofVerdict}
 use Rattle.snowgimmer.specs.Distance.{pointDistance}
+use Rattle.snowgimmer.specs.Entries.{entryReport, ToldOf}
 
 -- the call `distance` gives, of the point written, the distance that a nearest search told
 abbrev pub DistanceAgrees : Table → List Float → C.Answer C.NearestPoint → List ℤ → Type 0
@@ -58,3 +61,12 @@ pub record ChangeTold (a : List ℤ) (index : ℕ) (r : Report) (a′ : List ℤ
   pub tells : r ≡ ofVerdict (changeReference a index)
   pub writes : a′ ≡ changeOutput (changeReference a index) a index
   pub promises : ReferencePromises a index (changeReference a index) a′
+
+-- number and at are the verdict so far, e is the entry
+pub record EntryTold (number at : ℕ) (e : Entry) (r : Report) : Type 0 where
+  -- whatever is handed in
+  pub tells : r ≡ entryReport number at e
+  -- what the calls for the entries before e have told being handed in: what is promised of the answer, and what is told is to be handed
+  -- in with the next entry
+  pub promises : (before : List Entry) → ToldOf before number at → EntryPromises before e (fed (givenVerdict number at) e)
+  pub hands-on : (before : List Entry) → ToldOf before number at → ToldOf (before ++ e ∷ []) (r .number) (r .first)

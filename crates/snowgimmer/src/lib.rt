@@ -1,18 +1,22 @@
-// The library's calls for C and Rust. Each answers 0 or a refusal's number, and writes its report through first, second and
-// real: what a success tells, or what the refusal carries. A refusal leaves every lent slice as it was.
+// The library's calls for C and Rust. Each answers 0 or a refusal's number (the last one also another number that it is
+// handed), and writes its report through first, second and real: what a success tells, or what the refusal carries. A
+// refusal leaves every lent slice as it was.
 ghost use mathlib.Core.Path.{_≡_};
 ghost use Rattle.rounding.specs.Integers.{roundAway};
 ghost use Rattle.definitions.specs.Lent.{atEntry, atExit, tableAt};
 ghost use Rattle.definitions.specs.Calls as C;
+ghost use Rattle.definitions.specs.Entries.{entryOf};
 ghost use Rattle.snowgimmer.specs.Reports.{toldAt, ofDistance};
-ghost use Rattle.snowgimmer.specs.Told.{NearestTold, SeededTold, MlTold, ListTold, RoundTold, PlaneTold, ChangeTold};
+ghost use Rattle.snowgimmer.specs.Told.{NearestTold, SeededTold, MlTold, ListTold, RoundTold, PlaneTold, ChangeTold, EntryTold};
 ghost use Rattle.snowgimmer.specs.Distance.{pointDistance};
 
+mod entries;
 mod integers;
 mod report;
 
 use babai::nearest_plane;
 use babai::round;
+use entries::entry_report;
 use enumerate::nearest;
 use integers::read_integers;
 use listing::list;
@@ -199,4 +203,23 @@ pub extern "C" fn snowgimmer_change_reference(
     read_integers(point);
     let answer = change_reference(point, r);
     stored(verdict_report(answer), first, second, real)
+}
+
+// 3 and 4 of a table's entries, one at a time: the verdict on those handed in so far, this one included, and in first its
+// index. number and at are the result and first of the call for the entry before; at the start 0, with any at. Hand in the
+// entries that are read and no others, by rising index: n is not known here, so each one counts. 3 is final; a 4 becomes 3
+// at a later entry that is not finite. A number other than 0, 3 and 4 is told again, with at.
+#[no_mangle]
+pub extern "C" fn snowgimmer_check_entry(
+    number: u32,
+    at: u64,
+    index: usize,
+    entry: f64,
+    first: &mut u64,
+    second: &mut u64,
+    real: &mut f64,
+) -> u32
+    ensures { λ r. ⌜ EntryTold number at (entryOf index entry) (toldAt r first second real) ⌝ }
+{
+    stored(entry_report(number, at, index, entry), first, second, real)
 }

@@ -26,7 +26,7 @@ pub struct Report {
 }
 
 // A report of these parts.
-fn told(number: u32, first: u64, second: u64, real: f64) -> Report
+pub fn told(number: u32, first: u64, second: u64, real: f64) -> Report
     ensures { λ r. ⌜ r ≡ R.told number first second real ⌝ }
 {
     Report {

@@ -2,7 +2,7 @@
 use mathlib.Core.Path.{_≡_, refl, sym, ap, _∙_, subst}
 use mathlib.Core.Bool.{Bool, true, false, cond}
 use mathlib.Core.List.{List, [], _∷_, _++_, List·Memᴰ, List·Memᴰ·head, List·Memᴰ·tail, List·Memᴰ·cases-cons, List·Memᴰ·not-nil, List·Memᴰ·append-cases}
-use mathlib.Core.Logic.{⊎-elim}
+use mathlib.Core.Logic.{⊎-elim, _↔_}
 use Prim.Native.Nat.{ℕ, zero, suc, _+_, _*_, _-_, _≤_, _<_}
 use native.Mathlib.Nat.{mul-le-mul-right, add-mul}
 use native.Mathlib.Omega.{arith}
@@ -16,7 +16,7 @@ use Rattle.definitions.proofs.Tables.{read}
 use Rattle.theorems.specs.Refusals.{FirstFault, Read}
 
 -- ---- indices that rise
-data Increasing : List ℕ → Type 0 where
+pub data Increasing : List ℕ → Type 0 where
   none : Increasing []
   next : {i : ℕ} {is : List ℕ} → ((k : ℕ) → List·Memᴰ k is → i < k) → Increasing is → Increasing (i ∷ is)
 
@@ -42,13 +42,18 @@ only-read n (suc j) k m =
     (λ last. let l = counted (j * n) j k last in record { j = j; i = k - j * n; left = omega arith; below = omega arith; place = omega arith })
     (List·Memᴰ·append-cases (readIndices n j) m)
 
+-- the indices that are read are those of the entries mu(j, i) with i < j
+pub read-exactly : (n rows k : ℕ) → List·Memᴰ k (readIndices n rows) ↔ Read n rows k
+read-exactly n rows k =
+    (only-read n rows k, λ r. subst (λ (x : ℕ). List·Memᴰ x (readIndices n rows)) (sym (r .place)) (read n rows (r .j) (r .i) (r .left) (r .below)))
+
 -- the rows before one end before it begins
 row-begins : (n rows k : ℕ) → rows ≤ n → Read n rows k → k < rows * n
 row-begins n rows k few r =
     let h : (r .j + 1) * n ≤ rows * n = mul-le-mul-right n (omega arith) in
     omega (arith, add-mul (r .j) 1 n)
 
-read-increasing : (n rows : ℕ) → rows ≤ n → Increasing (readIndices n rows)
+pub read-increasing : (n rows : ℕ) → rows ≤ n → Increasing (readIndices n rows)
 unfolding readIndices
 read-increasing n zero few = none
 read-increasing n (suc j) few =
@@ -87,7 +92,7 @@ module _ (n : ℕ) (fault : ℕ → Bool) where
   -- of the entries that are read
   read-first : (size : ℕ) → AtFirst (refuseAtFirst fault (carrying n) (readIndices size size)) n (Read size size) fault
   read-first size =
-      among (only-read size size) (λ k r. subst (λ (x : ℕ). List·Memᴰ x (readIndices size size)) (sym (r .place)) (read size size (r .j) (r .i) (r .left) (r .below)))
+      among (λ k. read-exactly size size k .0) (λ k. read-exactly size size k .1)
       (at-first (read-increasing size size (omega arith)))
 
   -- of all that are counted

@@ -34,6 +34,7 @@ pub mod FirstFaults
 pub mod FirstRefusal
 pub mod CheckNumbers
 pub mod CallNumbers
+pub mod Entries
 -- ---- the calls
 pub mod Endings
 pub mod EndsAsWalk

@@ -9,6 +9,7 @@ pub mod Refusals
 pub mod Answers
 pub mod Promises
 pub mod Reference
+pub mod Entries
 pub mod SameRead
 pub mod EncodedJob
 pub mod JobCalls

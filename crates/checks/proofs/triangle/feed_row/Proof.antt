@@ -5,15 +5,15 @@ use native.Mathlib.Omega.{arith}
 use lib.ListN.{getD}
 use lib.Ieee.{nan}
 use borrow.Author.Needs.{needs}
-use Rattle.definitions.specs.Checks.{countFrom}
-use Rattle.checks.specs.declared.triangle.Triangle.{Triangle}
-use Rattle.checks.specs.Triangle.{fed, fedAll}
+use Rattle.definitions.specs.Checks.{Verdict, countFrom}
+use Rattle.definitions.specs.Entries.{entryOf, fed, fedAll, entriesAt}
+use Rattle.checks.specs.Triangle.{triangleVerdict}
 use Rattle.checks.proofs.Entries.{row-more}
 use Rattle.checks.proofs.triangle.feed_row.Statement.{statement}
 use Rattle.checks.proofs.triangle.feed_row.Tie as tie
 
 abbrev Inv-loop : tie.InvT-loop
-Inv-loop mu first count s₀ k₀ s k = (k ≤ count) × (s ≡ fedAll mu (countFrom first k) s₀)
+Inv-loop mu first count s₀ k₀ s k = (k ≤ count) × (triangleVerdict s ≡ fedAll (triangleVerdict s₀) (entriesAt mu (countFrom first k)))
 
 abbrev μ-loop : tie.MeasureT-loop
 μ-loop mu first count s₀ k₀ s k = count - k
@@ -49,13 +49,13 @@ loop-again c =
     let mu = a .mu .now in
     let at = c .before .before .before .loop in
     let here = a .first + at .k in
-    (search needs, c .feed .ensures ∙ ap (λ (s : Triangle). fed s here (getD mu here nan)) (at .inv .1) ∙ sym (row-more mu (a .first) (at .k) (a .start)))
+    (search needs, c .feed .ensures ∙ ap (λ (v : Verdict). fed v (entryOf here (getD mu here nan))) (at .inv .1) ∙ sym (row-more mu (triangleVerdict (a .start)) (a .first) (at .k)))
 
 returns : tie.Need-returns Inv-loop μ-loop
 returns c =
     let a = c .before .before .before .args in
     let all : c .before .loop .k ≡ a .count = omega arith in
-    c .before .loop .inv .1 ∙ ap (λ (k : ℕ). fedAll (a .mu .now) (countFrom (a .first) k) (a .start)) all
+    c .before .loop .inv .1 ∙ ap (λ (k : ℕ). fedAll (triangleVerdict (a .start)) (entriesAt (a .mu .now) (countFrom (a .first) k))) all
 
 pub feed-row-spec : {M : Type 1} → statement M
 feed-row-spec =

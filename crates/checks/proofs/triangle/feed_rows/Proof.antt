@@ -4,17 +4,16 @@ use Prim.Native.Nat.{ℕ, _*_, _≤_, _-_}
 use native.Mathlib.Nat.{mul-le-mul}
 use native.Mathlib.Omega.{arith}
 use borrow.Author.Needs.{needs}
-use Rattle.definitions.specs.Checks.{countFrom, readIndices}
-use Rattle.checks.specs.declared.triangle.Triangle.{Triangle}
-use Rattle.checks.specs.declared.triangle.Triangle.the-variants.{Clean}
-use Rattle.checks.specs.Triangle.{fedAll}
+use Rattle.definitions.specs.Checks.{Verdict, pass, countFrom, readIndices}
+use Rattle.definitions.specs.Entries.{fedAll, entriesAt}
+use Rattle.checks.specs.Triangle.{triangleVerdict}
 use Rattle.checks.proofs.Entries.{rows-more}
 use Rattle.definitions.proofs.Tables.{row-within}
 use Rattle.checks.proofs.triangle.feed_rows.Statement.{statement}
 use Rattle.checks.proofs.triangle.feed_rows.Tie as tie
 
 abbrev Inv-loop : tie.InvT-loop
-Inv-loop mu n s₀ j₀ s j = (j ≤ n) × (s ≡ fedAll mu (readIndices n j) Clean)
+Inv-loop mu n s₀ j₀ s j = (j ≤ n) × (triangleVerdict s ≡ fedAll pass (entriesAt mu (readIndices n j)))
 
 abbrev μ-loop : tie.MeasureT-loop
 μ-loop mu n s₀ j₀ s j = n - j
@@ -42,13 +41,13 @@ loop-again c =
     let a = c .before .before .before .before .args in
     let mu = a .mu .now in
     let at = c .before .before .loop in
-    (search needs, c .feed-row .ensures ∙ ap (λ (s : Triangle). fedAll mu (countFrom (at .j * a .n) (at .j)) s) (at .inv .1) ∙ sym (rows-more mu (a .n) (at .j) Clean))
+    (search needs, c .feed-row .ensures ∙ ap (λ (v : Verdict). fedAll v (entriesAt mu (countFrom (at .j * a .n) (at .j)))) (at .inv .1) ∙ sym (rows-more mu pass (a .n) (at .j)))
 
 returns : tie.Need-returns Inv-loop μ-loop
 returns c =
     let a = c .before .before .before .args in
     let all : c .before .loop .j ≡ a .n = omega arith in
-    c .before .loop .inv .1 ∙ ap (λ (j : ℕ). fedAll (a .mu .now) (readIndices (a .n) j) Clean) all
+    c .before .loop .inv .1 ∙ ap (λ (j : ℕ). fedAll pass (entriesAt (a .mu .now) (readIndices (a .n) j))) all
 
 pub feed-rows-spec : {M : Type 1} → statement M
 feed-rows-spec =
