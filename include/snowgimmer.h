@@ -37,7 +37,7 @@
  *    5 WeightRange          its index                             a weight is not finite or not above 0
  *    6 LengthMismatch       expected           found              target, then output, is not n long
  *    7 NonFinite            its index                             a target is not finite, or above 2^52 in magnitude
- *    8 InvalidRadius                                    radius    it is negative or not finite; minus zero passes
+ *    8 InvalidRadius                                    radius    negative or not finite; minus zero counts as 0
  *    9 BudgetRange          budget                                it is above 2^60
  *   10 CandidateLength      expected           found              the candidate is not n long
  *   11 CandidateDistance                                total     the candidate's distance overflows
@@ -53,6 +53,9 @@
  *
  * The first number that fits is the answer. A refusal leaves every slice that it is lent as it was.
  *
+ * A RADIUS of minus zero, as a computed one may be, counts as 0: the answer is that at 0, and after a refusal real is
+ * never minus zero. Before 0.5.0 it came back in 12, 15 and 16.
+ *
  * A BUDGET is the number of nodes that a search may try, up to 2^60. A search with more to try ends with 15.
  *
  * POINTERS. Each is aligned and not null, also where its length is 0, and what a function writes overlaps nothing else
@@ -66,9 +69,9 @@
 #include <stdint.h>
 
 #define SNOWGIMMER_VERSION_MAJOR 0
-#define SNOWGIMMER_VERSION_MINOR 4
+#define SNOWGIMMER_VERSION_MINOR 5
 #define SNOWGIMMER_VERSION_PATCH 0
-#define SNOWGIMMER_VERSION "0.4.0"
+#define SNOWGIMMER_VERSION "0.5.0"
 
 /* The largest n. */
 #define SNOWGIMMER_LARGEST_DIMENSION 23

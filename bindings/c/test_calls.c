@@ -179,6 +179,41 @@ static void no_dimension(void) {
     expect_true("n = 0, ml", same(real, 0.0) && out == 7);
 }
 
+/* What a call told, with real bit for bit. */
+static void expect_bits(const char *what, uint32_t number, uint32_t expected, uint64_t nodes, double three) {
+    expect(what, number, expected, nodes, 0, three);
+    expect_true(what, same(real, three));
+}
+
+/* nearest over one weight, 1, into an output that holds this number then */
+static uint32_t nearest_of_one(double t, double radius, uint64_t budget, int64_t after) {
+    const double one = 1.0, zero = 0.0;
+    int64_t out = 7;
+    uint32_t number = snowgimmer_nearest(&one, 1, &zero, 1, &t, 1, &out, 1, radius, budget, &first, &second, &real);
+    expect_true("nearest of one", out == after);
+    return number;
+}
+
+/* list over one weight, 1 */
+static uint32_t list_of_one(double t, double radius, uint64_t budget) {
+    const double one = 1.0, zero = 0.0;
+    return snowgimmer_list(&one, 1, &zero, 1, &t, 1, distances, PLACES, points, PLACES, radius, budget, &first,
+        &second, &real);
+}
+
+/* A radius of minus zero counts as 0 and comes back from no refusal. The largest double below 0 is refused as it is. */
+static void minus_zero(void) {
+    const double below = -5e-324; /* -2^-1074 */
+    expect_bits("-0, nearest", nearest_of_one(1.0, -0.0, 1, 1), SNOWGIMMER_SUCCESS, 1, 0.0);
+    expect_bits("-0, outside", nearest_of_one(0.5, -0.0, 100, 7), SNOWGIMMER_OUTSIDE_RADIUS, 0, 0.0);
+    expect_bits("-0, budget", nearest_of_one(1.0, -0.0, 0, 7), SNOWGIMMER_BUDGET_EXHAUSTED, 0, 0.0);
+    expect_bits("-0, budget of list", list_of_one(1.0, -0.0, 0), SNOWGIMMER_BUDGET_EXHAUSTED, 0, 0.0);
+    expect_bits("-0, candidate outside", seeded(1.0, 0, 1, -0.0), SNOWGIMMER_CANDIDATE_OUTSIDE, 0, 0.0);
+    expect_bits("below 0, nearest", nearest_of_one(1.0, below, 100, 7), SNOWGIMMER_INVALID_RADIUS, 0, below);
+    expect_bits("below 0, seeded", seeded(1.0, 0, 1, below), SNOWGIMMER_INVALID_RADIUS, 0, below);
+    expect_bits("below 0, list", list_of_one(1.0, below, 100), SNOWGIMMER_INVALID_RADIUS, 0, below);
+}
+
 static void seeds(void) {
     double coefficients[N] = {0.25, 0.5};
     int64_t out[N];
@@ -354,6 +389,7 @@ int main(void) {
     lists();
     for (int i = 0; i < 2; i++) found_distances(&rounded[i]);
     no_dimension();
+    minus_zero();
     seeds();
     references();
     entries();

@@ -48,11 +48,12 @@ def load_tests(loader, tests, pattern):
 
 class Test(unittest.TestCase):
     def refused(self, kind, values, call, *arguments):
-        """The call raises this refusal with these values."""
+        """The call raises this refusal with these values; gives the refusal."""
         with self.assertRaises(kind) as caught:
             call(*arguments)
         self.assertEqual(caught.exception.values, values)
         self.assertEqual(caught.exception.name, kind.__name__)
+        return caught.exception
 
     def wrong(self, kind, text, call, *arguments):
         """The call raises a plain error whose message has this text."""
@@ -210,6 +211,9 @@ class Distances(Test):
     def test_the_radius_is_not_told(self):
         self.assertEqual(nearest(*E, 1, 2).distance, 0.25)
         self.assertEqual(nearest_seeded(*E, [2], 2.25, 100).distance, 0.25)
+        for radius in 0.0, -0.0:
+            found = nearest([1], [0], [1], radius, 1)
+            self.assertEqual((found.point, found.nodes, bits(found.distance)), ((1,), 1, "0" * 16))
         for radius in 0.0, -0.0, 4.0:
             self.assertEqual(bits(nearest([], [], [], radius, 0).distance), "0" * 16)
             self.assertEqual(bits(nearest_seeded([], [], [], [], radius, 0).distance), "0" * 16)
@@ -362,6 +366,23 @@ class Refusals(Test):
         self.refused(WidenedRadius, {"radius": math.inf}, nearest_seeded, *E, [0], LARGEST, 9)
         self.refused(ListFull, {"points": 5}, list_points, *G, 2, 100, 4)
         self.refused(ListFull, {"points": 1}, list_points, [], [], [], 0, 0, 0)
+
+    def radius_refused(self, kind, radius, call, *arguments, **others):
+        """The call raises this refusal with this radius, bit for bit, since -0.0 == 0.0, and these other values."""
+        with self.subTest(call=call.__name__, kind=kind.__name__):
+            refusal = self.refused(kind, {**others, "radius": radius}, call, *arguments)
+            self.assertEqual(bits(refusal.radius), bits(radius))
+
+    def test_a_radius_of_minus_zero(self):
+        """It counts as 0 and comes back from no refusal. -2^-1074, the largest double below 0, is refused as it is."""
+        one, below = ([1], [0], [1]), -5e-324
+        self.radius_refused(OutsideRadius, 0.0, nearest, *E, -0.0, 9)
+        self.radius_refused(BudgetExhausted, 0.0, nearest, *one, -0.0, 0, nodes=0)
+        self.radius_refused(BudgetExhausted, 0.0, list_points, *one, -0.0, 0, nodes=0)
+        self.radius_refused(CandidateOutside, 0.0, nearest_seeded, *E, [0], -0.0, 9)
+        self.radius_refused(InvalidRadius, below, nearest, *one, below, 9)
+        self.radius_refused(InvalidRadius, below, nearest_seeded, *one, [1], below, 9)
+        self.radius_refused(InvalidRadius, below, list_points, *one, below, 9)
 
     def test_one_class_a_number(self):
         kinds = snowgimmer.Refusal.__subclasses__()

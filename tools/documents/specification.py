@@ -187,8 +187,10 @@ def check_target(target):
 
 
 def check_radius(radius):
+    """The radius that it hands on: plus zero where it is minus zero."""
     if not math.isfinite(radius) or radius < 0:
         raise Refusal(8, radius)
+    return 0.0 if radius == 0 else radius
 
 
 def check_budget(budget):
@@ -234,14 +236,14 @@ def ended(walk, none, out):
 
 def nearest(weights, mu, target, out, radius, budget):
     check_search(weights, mu, target, out)
-    check_radius(radius)
+    radius = check_radius(radius)
     check_budget(budget)
     return ended(Walk(weights, mu, target, radius, budget, consider), Refusal(16, radius), out)
 
 
 def nearest_seeded(weights, mu, target, out, candidate, radius, budget):
     check_search(weights, mu, target, out)
-    check_radius(radius)
+    radius = check_radius(radius)
     check_budget(budget)
     n = len(weights)
     if len(candidate) != n:
@@ -270,7 +272,7 @@ def list_points(weights, mu, target, distances, points, radius, budget):
     n = len(weights)
     check_length(n, len(target))
     check_target(target)
-    check_radius(radius)
+    radius = check_radius(radius)
     check_budget(budget)
     if len(distances) > LARGEST_LIST or len(points) != n * len(distances):
         raise Refusal(14, len(distances))

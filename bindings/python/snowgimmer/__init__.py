@@ -16,7 +16,7 @@ Arguments, the same in every function:
     mu       n rows of n numbers, or the n*n numbers flat, row by row. Only mu[j][i] with j > i, below the diagonal, is
              read; the rest may hold anything. A transposed table gives another table's nearest point, without a word
     target   n numbers, up to 2**52 in magnitude
-    radius   the square of the largest length that is searched, finite and not negative
+    radius   the square of the largest length that is searched, finite and not negative; minus zero counts as 0
     budget   how many nodes the search may try, up to 2**60; a search with more to try is refused. A call can't be
              interrupted, so choose one that ends in time
 
@@ -54,7 +54,7 @@ from .refusals import (
     TableSize, WeightRange, WidenedRadius)
 from .refusals import refusal as _refusal
 
-__version__ = "0.4.0"
+__version__ = "0.5.0"
 
 LARGEST_DIMENSION = 23
 LARGEST_LIST = 4096

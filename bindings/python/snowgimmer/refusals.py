@@ -6,6 +6,8 @@ class Refusal(Exception):
 
     `number` is the refusal's number, `name` its name and `values` what it carries, by name; each value is also an
     attribute. Each number has a class of its own below.
+
+    No value is minus zero: where 12, 15 and 16 gave a radius of minus zero back before 0.5.0, they give 0.0.
     """
 
     number = 0

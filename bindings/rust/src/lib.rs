@@ -10,7 +10,7 @@
 //!
 //! which is (t-z)' L W L' (t-z) with W = diag(w) and L the unit lower triangular matrix that has `mu[j*n+i]` in row j
 //! and column i. **Distance and radius are squares**, as this sum is; both are computed in doubles, and "nearest" is by
-//! the computed distance.
+//! the computed distance. A radius of minus zero counts as 0.
 //!
 //! mu is n·n entries **row by row**, of which only those below the diagonal, `mu[j*n+i]` with j > i, are read. A matrix
 //! stored column by column gives the nearest point of another table, and no check can tell; [`Table::from_rows`] takes

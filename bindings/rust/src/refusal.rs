@@ -4,6 +4,8 @@ use core::error::Error;
 use core::fmt;
 
 /// Why a call was refused. Its number is that of the library's header; `Display` gives a sentence.
+///
+/// No value is minus zero: where 12, 15 and 16 gave a radius of minus zero back before 0.5.0, they give 0.
 #[derive(Debug, Clone, Copy, PartialEq)]
 #[non_exhaustive]
 pub enum Refusal {

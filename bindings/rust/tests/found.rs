@@ -77,6 +77,15 @@ fn not_the_radius() -> Result<(), Refusal> {
 }
 
 #[test]
+fn a_radius_of_zero() -> Result<(), Refusal> {
+    for radius in [0.0, -0.0] {
+        let found = E.table.nearest(&[1.0], radius, 1)?;
+        assert_eq!((&found.point[..], found.nodes, found.distance.to_bits()), (&[1][..], 1, 0));
+    }
+    Ok(())
+}
+
+#[test]
 fn no_dimension() -> Result<(), Refusal> {
     let none = Table::new(&[], &[]);
     for radius in [0.0, -0.0, 4.0] {

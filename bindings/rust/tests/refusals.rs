@@ -29,11 +29,11 @@ fn kept<A: Debug>(places: usize, call: impl FnOnce(&mut [i64]) -> Result<A, Refu
     refusal
 }
 
-/// The refusal of a list of one weight over these places, which must keep their contents.
-fn list_kept(weight: f64, places: usize, points: usize, radius: f64, budget: u64) -> Refusal {
+/// The refusal of a list of weight 1 over these places, which must keep their contents.
+fn list_kept(target: f64, places: usize, points: usize, radius: f64, budget: u64) -> Refusal {
     let mut distances = nans(places);
     kept(points, |points| {
-        let listed = list(&[weight], &[0.0], &[0.5], &mut distances, points, radius, budget);
+        let listed = list(&[1.0], &[0.0], &[target], &mut distances, points, radius, budget);
         assert_eq!(bits(&distances), bits(&nans(places)));
         listed
     })
@@ -86,10 +86,62 @@ fn searches() {
 
 #[test]
 fn lists() {
-    assert_eq!(list_kept(1.0, 4097, 4097, 1.0, 9), Refusal::ListSize { distances: 4097 });
-    assert_eq!(list_kept(1.0, 4, 5, 1.0, 9), Refusal::ListSize { distances: 4 });
-    assert_eq!(list_kept(1.0, 4, 4, 1.0, 1), Refusal::BudgetExhausted { nodes: 1, radius: 1.0 });
-    assert_eq!(list_kept(1.0, 1, 1, 1.0, 9), Refusal::ListFull { points: 2 });
+    assert_eq!(list_kept(0.5, 4097, 4097, 1.0, 9), Refusal::ListSize { distances: 4097 });
+    assert_eq!(list_kept(0.5, 4, 5, 1.0, 9), Refusal::ListSize { distances: 4 });
+    assert_eq!(list_kept(0.5, 4, 4, 1.0, 1), Refusal::BudgetExhausted { nodes: 1, radius: 1.0 });
+    assert_eq!(list_kept(0.5, 1, 1, 1.0, 9), Refusal::ListFull { points: 2 });
+}
+
+/// The refusal is the expected one, and its radius bit for bit: -0.0 == 0.0.
+fn same_radius(refusal: Refusal, expected: Refusal) {
+    let radius_bits = |refusal: Refusal| match refusal {
+        Refusal::InvalidRadius { radius }
+        | Refusal::CandidateOutside { radius }
+        | Refusal::BudgetExhausted { radius, .. }
+        | Refusal::OutsideRadius { radius } => radius.to_bits(),
+        _ => panic!("{refusal}"),
+    };
+    assert_eq!(refusal, expected);
+    assert_eq!(radius_bits(refusal), radius_bits(expected), "{refusal}");
+}
+
+/// nearest of weight 1
+fn nearest_kept(target: f64, radius: f64, budget: u64) -> Refusal {
+    kept(1, |out| nearest(&[1.0], &[0.0], &[target], out, radius, budget))
+}
+
+/// nearest_seeded of weight 1 with target 0.5 and candidate 0
+fn seeded_kept(radius: f64) -> Refusal {
+    kept(1, |out| nearest_seeded(&[1.0], &[0.0], &[0.5], out, &[0], radius, 9))
+}
+
+#[test]
+fn minus_zero_outside() {
+    same_radius(nearest_kept(0.5, -0.0, 9), Refusal::OutsideRadius { radius: 0.0 });
+}
+
+#[test]
+fn minus_zero_budget() {
+    same_radius(nearest_kept(1.0, -0.0, 0), Refusal::BudgetExhausted { nodes: 0, radius: 0.0 });
+}
+
+#[test]
+fn minus_zero_budget_of_a_list() {
+    same_radius(list_kept(1.0, 4, 4, -0.0, 0), Refusal::BudgetExhausted { nodes: 0, radius: 0.0 });
+}
+
+#[test]
+fn minus_zero_candidate_outside() {
+    same_radius(seeded_kept(-0.0), Refusal::CandidateOutside { radius: 0.0 });
+}
+
+/// The largest double below 0, -2^-1074, comes back as it is.
+#[test]
+fn just_below_zero() {
+    let radius = -5e-324;
+    for refusal in [nearest_kept(1.0, radius, 9), seeded_kept(radius), list_kept(1.0, 4, 4, radius, 9)] {
+        same_radius(refusal, Refusal::InvalidRadius { radius });
+    }
 }
 
 #[test]

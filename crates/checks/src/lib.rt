@@ -76,10 +76,13 @@ pub fn search_check(
     or_else(table, or_else(target_length, values))
 }
 
-// The radius that a call hands on once check 8 has passed: its own.
+// The radius that a call hands on once check 8 has passed: its own, but plus zero where that is minus zero.
 pub fn handed_on(radius: f64) -> f64
     ensures { λ r. ⌜ r ≡ handedOn radius ⌝ }
 {
+    if radius == 0.0 {
+        return 0.0;
+    }
     radius
 }
 

@@ -225,7 +225,7 @@ fn nearest(radius: f64, budget: u64) {
     ));
 }
 
-// Minus zero passes, and is handed on as it is. 8 before 9.
+// Minus zero passes, and is handed on as plus zero; nothing else is changed by that. 8 before 9.
 fn radii() {
     word(b"nearest_check:");
     nearest(0.0, 0);
@@ -237,7 +237,13 @@ fn radii() {
     nearest(infinity(), 0);
     word(b"\nhanded_on:");
     double(checks::handed_on(-0.0));
+    double(checks::handed_on(0.0));
+    double(checks::handed_on(SMALLEST));
+    double(checks::handed_on(-SMALLEST));
     double(checks::handed_on(1.5));
+    double(checks::handed_on(-1.5));
+    double(checks::handed_on(nan()));
+    double(checks::handed_on(-infinity()));
     newline();
 }
 

@@ -1,4 +1,4 @@
--- The bench cases of docs/SPECIFICATION.md, A to L, the case "distance", those of `change_reference` and of entries one at a time, proved together by one evaluation of the definitions. Case I's list is taken with a budget of 6 (docs/DECISIONS.md).
+-- The bench cases of docs/SPECIFICATION.md, A to L, the case "distance", those of `change_reference`, of entries one at a time and of a radius of minus zero, proved together by one evaluation of the definitions. Case I's list is taken with a budget of 6 (docs/DECISIONS.md).
 -- Assumes nothing.
 use mathlib.Core.Path.{_≡_, refl}
 use Prim.Native.Nat.{ℕ, zero, suc, _+_, _-_, _/_, _%_, _^_}
@@ -8,11 +8,11 @@ use lib.ListN.{length, replicate}
 use lib.IntN.{ℤ, pos, negsuc}
 use lib.Ieee.{Float, fin, inf, nan, binary64, toBits}
 use Rattle.rounding.specs.Integers.{roundAway}
-use Rattle.definitions.specs.Table.{Table, plusZero, one, coordLimit, largestDimension}
+use Rattle.definitions.specs.Table.{Table, plusZero, minusZero, one, coordLimit, largestDimension}
 use Rattle.definitions.specs.Distance.{partial}
 use Rattle.definitions.specs.Admitted.{admitted}
 use Rattle.definitions.specs.Listing.{ListPoint}
-use Rattle.definitions.specs.Refusals.{muNonFinite, muRange, outsideRadius, budgetExhausted, nonFinite, candidateOutside, budgetRange, referenceIndex, changedRange}
+use Rattle.definitions.specs.Refusals.{muNonFinite, muRange, outsideRadius, budgetExhausted, nonFinite, invalidRadius, candidateOutside, budgetRange, referenceIndex, changedRange}
 use Rattle.definitions.specs.Checks.{Verdict, pass, refuse, firstRefusal, tableChecks}
 use Rattle.definitions.specs.Entries.{Entry, entryOf, fedAll}
 use Rattle.definitions.specs.Calls.{Answer, found, refused, NearestPoint, ListAnswer, nearest, nearestSeeded, nearestMl, list}
@@ -258,6 +258,44 @@ tableCases =
 abbrev tableAnswers : List Verdict
 tableAnswers = refuse (muNonFinite 7) ∷ refuse (muNonFinite 12) ∷ refuse (muRange 2) ∷ pass ∷ refuse (muRange 2) ∷ []
 
+-- ---- a radius of minus zero, and -2^-1074, which is below 0
+abbrev belowZero : Float
+belowZero = fin true 1 (negsuc 1073)
+
+abbrev zeroCases : List (Answer NearestPoint)
+zeroCases =
+    nearest tableE targetE out1 minusZero 100
+    ∷ nearest tableE (one ∷ []) out1 minusZero 0
+    ∷ nearest tableE (one ∷ []) out1 minusZero 1
+    ∷ nearestSeeded tableE targetE out1 (pos 0 ∷ []) minusZero 100
+    ∷ nearest tableE targetE out1 belowZero 100
+    ∷ nearestSeeded tableE targetE out1 (pos 0 ∷ []) belowZero 100
+    ∷ []
+
+abbrev zeroAnswers : List (Answer NearestPoint)
+zeroAnswers =
+    refused (outsideRadius plusZero)
+    ∷ refused (budgetExhausted 0 plusZero)
+    ∷ at 1 plusZero (pos 1 ∷ [])
+    ∷ refused (candidateOutside plusZero)
+    ∷ refused (invalidRadius belowZero)
+    ∷ refused (invalidRadius belowZero)
+    ∷ []
+
+abbrev zeroLists : List (Answer ListAnswer)
+zeroLists =
+    list tableE (one ∷ []) places places1 minusZero 0
+    ∷ list tableE (one ∷ []) places places1 minusZero 1
+    ∷ list tableE (one ∷ []) places places1 belowZero 0
+    ∷ []
+
+abbrev zeroListAnswers : List (Answer ListAnswer)
+zeroListAnswers =
+    refused (budgetExhausted 0 plusZero)
+    ∷ listed 1 (away plusZero (pos 1 ∷ []) ∷ [])
+    ∷ refused (invalidRadius belowZero)
+    ∷ []
+
 -- ---- G as a job: radius 2 and budget 100
 unfoldable pub bytesOf : ℕ → ℕ → List ℕ
 bytesOf zero n = []
@@ -297,6 +335,8 @@ pub record Cases : Type 0 where
   pub reference-cases : referenceCases ≡ referenceAnswers
   pub entry-cases : entryCases ≡ entryAnswers
   pub table-cases : tableCases ≡ tableAnswers
+  pub zero-cases : zeroCases ≡ zeroAnswers
+  pub zero-lists : zeroLists ≡ zeroListAnswers
   pub printed : jobOutput jobG ≡ printedG
   pub printed-empty : jobOutput jobA ≡ printedA
 
@@ -312,6 +352,8 @@ cases = record {
   reference-cases = refl;
   entry-cases = refl;
   table-cases = refl;
+  zero-cases = refl;
+  zero-lists = refl;
   printed = refl;
   printed-empty = refl;
 }

@@ -14,6 +14,7 @@ pub mod Entries
 pub mod Tables
 pub mod Passed
 pub mod Answers
+pub mod HandedOn
 pub mod References
 pub mod Decimal
 pub mod Triangles

@@ -4,7 +4,7 @@ use mathlib.Core.Bool.{Bool, not, _&&_, _||_, cond}
 use mathlib.Core.List.{List, [], _∷_, _++_}
 use lib.Dec.{ltb, eqb}
 use lib.ListN.{length, getD}
-use lib.Ieee.{Float, nan, lt}
+use lib.Ieee.{Float, nan, lt, eq}
 use lib.Ieee.Scale.{finite}
 use Rattle.rounding.specs.Doubles.{magnitude}
 use Rattle.definitions.specs.Table.{Table, dimension, weight, coordinate, plusZero, coordLimit, largestBudget, largestList}
@@ -103,9 +103,9 @@ unfoldable pub radiusCheck : Float → Verdict
 unfolding lt
 radiusCheck R = refuseIf (notFinite R || lt R plusZero) (invalidRadius R)
 
--- the radius that check 8 hands on to the walk and to refusals 12, 15 and 16: the call's
+-- the radius that check 8 hands on to the walk, to the widening and to refusals 12, 15 and 16: the call's, but plus zero where that is minus zero
 abbrev pub handedOn : Float → Float
-handedOn R = R
+handedOn R = cond (eq R plusZero) plusZero R
 
 -- 9: the budget must be within its limit
 abbrev pub budgetCheck : ℕ → Verdict

@@ -3,7 +3,7 @@ use Prim.Native.Nat.{ℕ, _+_, _*_, _^_}
 use mathlib.Core.List.{List}
 use lib.ListN.{length, getD}
 use lib.IntN.{pos}
-use mathlib.Core.Bool.{false}
+use mathlib.Core.Bool.{true, false}
 use lib.Ieee.{Float, nan, fin}
 
 -- the two slices of a table
@@ -30,9 +30,12 @@ entry n mu j i = getD mu (j * n + i) nan
 abbrev pub coordinate : List Float → ℕ → Float
 coordinate target level = getD target level nan
 
--- plus zero, 1, and 2^52, which is `COORD_LIMIT`
+-- plus zero, minus zero, 1, and 2^52, which is `COORD_LIMIT`
 abbrev pub plusZero : Float
 plusZero = fin false 0 (pos 0)
+
+abbrev pub minusZero : Float
+minusZero = fin true 0 (pos 0)
 
 abbrev pub one : Float
 one = fin false 1 (pos 0)

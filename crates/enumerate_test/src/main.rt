@@ -218,7 +218,7 @@ fn found_distances() {
 
 // ---- the ends of the domain
 
-// With the smallest weight two points are at distance 0: minus zero stands until the first, then plus zero.
+// A radius of minus zero stands and is told as plus zero. With the smallest weight two points are at distance 0.
 fn radii() {
     one(b"radius 0:", 2.0, 3.0, 0.0, 1);
     one(b"radius 0, outside:", 2.0, 3.25, 0.0, 1);

@@ -104,7 +104,8 @@ fn list_into(
     ensures { λ r. ⌜ ListAnswered (listAt weights mu target distances points radius budget) r (atEntry distances) (atExit distances) (atEntry points) (atExit points) ⌝ }
 {
     let n = weights.len();
-    let end = list_walk(weights, mu, target, measured, vectors, radius, budget);
+    let start = handed_on(radius);
+    let end = list_walk(weights, mu, target, measured, vectors, start, budget);
     match end {
         ListEnding::Exhausted(nodes, standing) => {
             return ListAnswer::Refused(Refusal::BudgetExhausted(nodes, standing));
@@ -119,7 +120,7 @@ fn list_into(
                 vectors,
                 n,
                 k,
-                radius,
+                start,
                 order,
                 spare,
                 distances,
@@ -291,12 +292,11 @@ pub fn list(
     if let Verdict::Refuse(e) = checked {
         return ListAnswer::Refused(e);
     }
-    let start = handed_on(radius);
     if distances.len() <= SHORT_LIST {
-        return list_short(weights, mu, target, distances, points, start, budget);
+        return list_short(weights, mu, target, distances, points, radius, budget);
     }
     if points.len() <= MIDDLE_LIST_POINTS {
-        return list_middle(weights, mu, target, distances, points, start, budget);
+        return list_middle(weights, mu, target, distances, points, radius, budget);
     }
-    list_long(weights, mu, target, distances, points, start, budget)
+    list_long(weights, mu, target, distances, points, radius, budget)
 }

@@ -69,7 +69,7 @@ product-zero : (m : ℕ) (e : ℤ) → m * up e * 1 ≡ 0 → m ≡ 0
 product-zero zero e h = refl
 product-zero (suc m) e h = let p : 0 < suc m * up e = mul-pos (zero-lt-suc m) (up-pos e) in absurd (omega arith)
 
-zero-digits : (s : Bool) (m : ℕ) (e : ℤ) → eq (fin s m e) nought ≡ true → m ≡ 0
+pub zero-digits : (s : Bool) (m : ℕ) (e : ℤ) → eq (fin s m e) nought ≡ true → m ≡ 0
 unfolding eq
 zero-digits s m e h =
     let a = m * up e * 1 in

@@ -7,6 +7,8 @@ pub use Rattle.rounding.proofs.PowerBounds.{Within, within-more, within
 pub use Rattle.rounding.proofs.Comparison.{held, failed, equals-itself, differs}
 pub use Rattle.rounding.proofs.Tests.{within-not-above, nonneg-not-lt, weight-of}
 pub use Rattle.rounding.proofs.Constants.{zero-is, limit-is, one-is, epsilon-is, three-is}
+-- plus zero in place of minus zero
+pub use Rattle.rounding.proofs.Zeros.{plus-is-zero, minus-is-zero, minus-to-plus, never-minus, plus-zero-stays, zero-passes, plus-zero-above, plus-zero-below, plus-zero-finite, plus-zero-nonneg}
 -- the order of doubles, and `ord`, the number by which it is that of ℕ
 pub use Rattle.rounding.proofs.Value.{ord, lt→ord, ord→lt, le→ord, ord→le, eq→ord}
 pub use Rattle.rounding.proofs.Value.{float-le-refl, float-le-trans, float-lt-le-trans, float-le-lt-trans, float-total, lt→le, not-lt→le, le→not-lt}
@@ -20,4 +22,4 @@ pub use Rattle.rounding.proofs.Saturation.{negated-fits, negated-is}
 pub use Rattle.rounding.proofs.NonNegative.{add-nonneg, finite-below, remaining-fits}
 pub use Rattle.rounding.proofs.Subtraction.{sub-number, sub-mono}
 pub use Rattle.rounding.proofs.Term.{term, passed-term-nonneg, term-nonneg, term-up, term-down, term-least}
-pub use Rattle.rounding.proofs.Widening.{widened, widening-fits, widening-lt, widening-plus}
+pub use Rattle.rounding.proofs.Widening.{widened, widening-fits, widening-lt, widening-nonneg, widening-same}

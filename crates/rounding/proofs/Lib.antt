@@ -22,6 +22,7 @@ mod ExactIntegers
 mod Doubling
 mod Saturation
 mod Comparison
+mod Zeros
 mod Constants
 mod Guess
 -- What other crates may use.

@@ -1,27 +1,30 @@
--- A radius r, widened to r + (2^-52·max(r, 1))·k and rounded after each operation, is strictly above r, for a finite r that is not below zero and a whole k from 4 up; for k = 0 it is r. Assumes nothing.
+-- A radius r, widened to r + (2^-52·max(r, 1))·k and rounded after each operation, is strictly above r, for a finite r that is not below zero and a whole k from 4 up; and it has the sign plus if r has it, for k = 0 too. Both zeros are widened to the same value. Assumes nothing.
 use mathlib.Core.Path.{_≡_, refl, sym, ap, _∙_}
 use mathlib.Core.Logic.{_⊎_, inl, inr}
 use Prim.Native.Nat.{ℕ, zero, suc, _+_, _-_, _*_, _/_, _^_, _≤_, _<_}
-use native.Mathlib.Nat.{le-refl, le-trans, le-of-eq, le-of-lt, lt-of-lt-of-le, lt-of-le-of-lt, lt-of-not-le, not-le-of-lt, one-mul, mul-one, mul-comm, mul-assoc, mul-left-comm, mul-right-comm, mul-le-mul, mul-le-mul-left, mul-le-mul-right, add-le-add, add-mul, sub-le, sub-add-cancel, div-mul-le-self, lt-div-mul-add, div-lt-iff-lt-mul}
+use native.Mathlib.Nat.{le-refl, le-trans, le-of-eq, le-of-lt, lt-of-lt-of-le, lt-of-le-of-lt, lt-of-not-le, not-le-of-lt, zero-mul, one-mul, mul-one, mul-comm, mul-assoc, mul-left-comm, mul-right-comm, mul-le-mul, mul-le-mul-left, mul-le-mul-right, add-le-add, add-mul, sub-le, sub-add-cancel, div-mul-le-self, lt-div-mul-add, div-lt-iff-lt-mul}
 use native.Mathlib.Numerals.{add-one}
 use native.Mathlib.Omega.{arith}
 use mathlib.Core.Bool.{Bool, true, false, not, _||_, cond, true≢false}
 use lib.IntN.{pos, negsuc}
-use lib.Dec.{T, T-not, lit<, lit≤}
+use borrow.Author.Tests.{lt-ltb}
+use lib.Dec.{T, T-not, ltb, lit<, lit≤}
 use lib.Pow.{pow-add, pow-pos, pow-lt, pow-mono}
-use lib.Ieee.{Float, nan, inf, fin, Format, binary32, binary64, prec, low, unlike, size, round, add, mul, lt, ofInt, fits, isNan}
+use lib.Ieee.{Float, nan, inf, fin, Format, binary32, binary64, prec, low, up, down, unlike, size, round, sum, add, mul, lt, eq, ofInt, fits, isNan}
 use lib.Ieee.Digits.{size-lt, size-reaches}
-use lib.Ieee.Fits.{add-fits, mul-fits}
-use lib.Ieee.Scale.{finite, overflow}
+use lib.Ieee.Fits.{add-fits}
+use lib.Ieee.Scale.{overflow}
 use Rattle.rounding.specs.Doubles.{negative, larger}
-use Rattle.rounding.proofs.Scaled.{scale, scaled, scale-pos, scale-scale-pos, overflow-pos, scaled-zero, one-digit, split, scaled-exact, scaled-power}
+use Rattle.rounding.proofs.Scaled.{scale, scaled, scale-pos, scale-scale-pos, one-digit, split, scaled-exact, scaled-power}
 use Rattle.rounding.specs.Kinds.{Number, Finite, NonNegative}
-use Rattle.rounding.proofs.Value.{Weight, number, weight-finite, zero-finite, finite-lt, finite-of-lt, offset, mid, ord, ord-is, ord-inf, nonneg-ord, above-mid, mid-sign, lt→ord, ord→lt}
+use Rattle.rounding.proofs.Value.{Weight, number, weight-finite, zero-finite, zero-nonneg, finite-lt, finite-of-lt, mid, ord, ord-is, ord-inf, nonneg-ord, above-mid, mid-sign, lt→ord, ord→lt}
 use Rattle.rounding.proofs.Rounding.{roundScaled, roundFraction-mono, roundFraction-same, roundScaled-mono, roundScaled-exact, roundScaled-fix, rnd, rnd-up}
-use Rattle.rounding.proofs.Addition.{add-inf, ord-add, add-number, add-grows}
+use Rattle.rounding.proofs.Addition.{add-inf, ord-add, add-number}
+use Rattle.rounding.proofs.NonNegative.{add-nonneg}
 use Rattle.rounding.proofs.Conversion.{scaled-whole, ofInt-weight}
-use Rattle.rounding.proofs.Multiplication.{product, Product, product-of, product-mono, product-zero}
-use Rattle.rounding.proofs.Tests.{mid-of-not-lt, not-lt-of-mid}
+use Rattle.rounding.proofs.Multiplication.{product, Product, product-of, product-mono}
+use Rattle.rounding.proofs.Tests.{mid-of-not-lt, nonneg-not-lt}
+use Rattle.rounding.proofs.Zeros.{withPlusZero, zero-signed}
 
 -- ---- a sum that is strictly above its first part
 
@@ -126,6 +129,13 @@ record AtLeast (f : Format) (r L : Float) : Type 0 where
   one : scale f ≤ scaled f L
   over : scaled f r ≤ scaled f L
 
+-- a part (2^-52·L)·k is not negative if k is not
+part-sign : (f : Format) (r L k : Float) → AtLeast f r L → Finite f k → negative k ≡ false → NonNegative f (mul f (mul f eps L) k)
+part-sign f r L k v q s =
+    let inner = product-of f eps L (eps-finite f) (v .fin) in
+    let outer = product-of f (mul f eps L) k (eps-times-finite f L (v .fin)) q in
+    record { num = outer .num; plus = outer .sign ∙ ap (λ (b : Bool). unlike b (negative k)) (inner .sign ∙ ap (unlike false) (v .plus)) ∙ ap (unlike false) s }
+
 -- the leading binary digit of X, which is not below 2 ^ l
 leading : (l X : ℕ) → 2 ^ l ≤ X → (j : ℕ) × (l ≤ j) × (2 ^ j ≤ X) × (X < 2 ^ suc j)
 leading l X h = go (size X) (size-lt X) (size-reaches X) (lt-of-not-le (λ (k : size X ≤ l). not-le-of-lt (lt-of-lt-of-le (size-lt X) (pow-mono k)) h))
@@ -145,7 +155,7 @@ module _ (f : Format) (r L : Float) (k : ℕ) (p : Finite f r) (v : AtLeast f r 
   outer = product-of f (mul f eps L) (ofInt f (pos k)) (eps-times-finite f L (v .fin)) (weight-finite weight)
 
   part-nonneg : NonNegative f (mul f (mul f eps L) (ofInt f (pos k)))
-  part-nonneg = record { num = outer .num; plus = outer .sign ∙ ap (λ (s : Bool). unlike s (negative (ofInt f (pos k)))) (inner .sign ∙ ap (unlike false) (v .plus)) ∙ ap (unlike false) (weight .plus) }
+  part-nonneg = part-sign f r L (ofInt f (pos k)) v (weight-finite weight) (weight .plus)
 
   -- with 2 ^ j the leading digit of L: r has at most 51 digits in the unit 2 ^ (j - 50)
   digits : (j : ℕ) → 51 < prec f → 52 ≤ j → scaled f L < 2 ^ suc j → scaled f r / 2 ^ (j - 50) + 1 < 2 ^ prec f
@@ -218,27 +228,15 @@ larger-one f r p h = go (lt r one) (isNan r) (lt→ord f (number p) (number (one
         sign (inl e) k = e
         sign (inr e) k = absurd (omega (arith, scale-pos f))
 
--- ---- nothing added
-plus-nothing : (f : Format) (r a : Float) → Finite f r → T (fits f a) → T (finite (add f r (mul f a (fin false 0 (pos 0))))) → ord f r ≤ ord f (add f r (mul f a (fin false 0 (pos 0))))
-plus-nothing f nan a p d h = absurd (p .fin)
-plus-nothing f (inf s) a p d h = absurd (p .fin)
-plus-nothing f (fin s m e) nan p d h = absurd (unfold mul in (unfold add in h))
-plus-nothing f (fin s m e) (inf t) p d h = absurd (unfold mul in (unfold add in h))
-plus-nothing f (fin s m e) (fin t n k) p d h =
-    let nothing = mul f (fin t n k) (fin false 0 (pos 0)) in
-    let r = product-of f (fin t n k) (fin false 0 (pos 0)) (record { fit = d; fin = tt }) (zero-finite f) in
-    let none : scaled f nothing ≡ 0 = r .size ∙ ap (product f (scaled f (fin t n k))) (scaled-zero f false (pos 0)) ∙ product-zero f (scaled f (fin t n k)) in
-    add-grows p (finite-of-lt (r .num) (lt-of-le-of-lt (le-of-eq none) (overflow-pos f))) (le-of-eq (sym (ord-is f nothing ∙ ap (offset (mid f) (negative nothing)) none ∙ centred (negative nothing))))
-  where
-    centred : (b : Bool) → offset (mid f) b 0 ≡ mid f
-    centred false = omega arith
-    centred true = omega arith
-
 -- ---- the law, for the widening by 4·n at dimension n
+
+-- (2^-52·max(r, 1))·4n
+abbrev part : ℕ → Float → Float
+part n r = mul binary64 (mul binary64 eps (larger r one)) (ofInt binary64 (pos (4 * n)))
 
 -- r + (2^-52·max(r, 1))·4n
 abbrev pub widened : ℕ → Float → Float
-widened n r = add binary64 r (mul binary64 (mul binary64 eps (larger r one)) (ofInt binary64 (pos (4 * n))))
+widened n r = add binary64 r (part n r)
 
 -- a double, whatever the radius
 pub widening-fits : (n : ℕ) (r : Float) → T (fits binary64 (widened n r))
@@ -264,10 +262,50 @@ module _ (n : ℕ) (r : Float) (k : n ≤ 64) (p : Finite binary64 r) (plus : T 
     pub widening-lt : T (lt r (widened n r))
     widening-lt = ord→lt binary64 (number p) widening-number above
 
-  -- not negative, for n = 0 too
-  pub widening-plus : Finite binary64 (widened n r) → T (not (lt (widened n r) (fin false 0 (pos 0))))
-  widening-plus wide = not-lt-of-mid (number wide) (le-trans l (go n above (wide .fin)))
+  -- for n = 0 too
+  part-plus : NonNegative binary64 (part n r)
+  part-plus = go n k
     where
-      go : (n : ℕ) → (0 < n → ord binary64 r < ord binary64 (widened n r)) → T (finite (widened n r)) → ord binary64 r ≤ ord binary64 (widened n r)
-      go zero a f = unfold ofInt in (plus-nothing binary64 r (mul binary64 eps (larger r one)) p (mul-fits binary64 eps (larger r one)) f)
-      go (suc n) a f = le-of-lt (a (omega arith))
+      at : AtLeast binary64 r (larger r one)
+      at = larger-one binary64 r p l
+
+      go : (n : ℕ) → n ≤ 64 → NonNegative binary64 (part n r)
+      go zero h = unfold ofInt in (part-sign binary64 r (larger r one) (fin false 0 (pos 0)) at (zero-finite binary64) refl)
+      go (suc n) h = let b = bounds (suc n) (2 ^ prec binary64) (omega arith) h (lit≤ tt) in part-nonneg binary64 r (larger r one) (4 * suc n) p at (b .0) (b .1)
+
+  -- it has the sign plus if r has it
+  pub widening-nonneg : NonNegative binary64 r → NonNegative binary64 (widened n r)
+  widening-nonneg q = add-nonneg binary64 r (part n r) q part-plus .sum
+
+-- ---- both zeros are widened alike
+
+-- a sum with a zero, whose sign does not show beside a plus
+zero-sum : (f : Format) (B C : ℕ) → sum f true 0 false B C ≡ sum f false 0 false B C
+unfolding sum
+zero-sum f zero C = refl
+zero-sum f (suc B) C =
+    let other = round f (ltb (suc B) 0) (0 - suc B) C in
+    let same : suc B - 0 ≡ 0 + suc B = omega arith in
+    ap (λ (b : Bool). cond b (round f false (suc B - 0) C) other) (lt-ltb 0 (suc B) (omega arith)) ∙ ap (λ (k : ℕ). round f false k C) same
+
+zeros-alike : (f : Format) (y : Float) → negative y ≡ false → add f (fin true 0 (pos 0)) y ≡ add f (fin false 0 (pos 0)) y
+unfolding add
+zeros-alike f nan q = refl
+zeros-alike f (inf t) q = refl
+zeros-alike f (fin true m e) q = absurd (true≢false q)
+zeros-alike f (fin false m e) q =
+    let none : 0 * up (pos 0) * down e ≡ 0 = zero-mul (down e) in
+    ap (λ (A : ℕ). sum f true A false (m * up e * down (pos 0)) (down (pos 0) * down e)) none
+    ∙ zero-sum f (m * up e * down (pos 0)) (down (pos 0) * down e)
+    ∙ ap (λ (A : ℕ). sum f false A false (m * up e * down (pos 0)) (down (pos 0) * down e)) (sym none)
+
+pub widening-same : (n : ℕ) (r : Float) → n ≤ 64 → T (fits binary64 r) → widened n r ≡ widened n (withPlusZero r)
+widening-same n r k t = go (eq r (fin false 0 (pos 0))) refl
+  where
+    alike : (s : Bool) → widened n (fin s 0 (pos 0)) ≡ widened n (fin false 0 (pos 0))
+    alike false = refl
+    alike true = unfold larger in (zeros-alike binary64 (part n (fin false 0 (pos 0))) (part-plus n (fin false 0 (pos 0)) k (zero-finite binary64) (nonneg-not-lt (zero-nonneg binary64)) .plus))
+
+    go : (b : Bool) → eq r (fin false 0 (pos 0)) ≡ b → widened n r ≡ widened n (cond b (fin false 0 (pos 0)) r)
+    go true e = let z = zero-signed r t e in ap (widened n) (z .1) ∙ alike (z .0)
+    go false e = refl

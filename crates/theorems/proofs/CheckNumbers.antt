@@ -1,5 +1,5 @@
 -- The number under which each check refuses. Assumes nothing.
-use mathlib.Core.Path.{_≡_, sym, ap}
+use mathlib.Core.Path.{_≡_, refl, sym, ap, subst}
 use mathlib.Core.Bool.{Bool, true, false, not, _||_}
 use mathlib.Core.List.{List, _∷_, _++_}
 use Prim.Native.Nat.{ℕ, _*_}
@@ -9,15 +9,19 @@ use lib.IntN.{ℤ}
 use lib.Ieee.{Float, lt}
 use Rattle.definitions.specs.Table.{Table, dimension, plusZero, largestBudget}
 use Rattle.definitions.specs.Refusals.{Refusal, tableSize, lengthMismatch, invalidRadius, budgetRange, candidateDistance, candidateOutside, widenedRadius}
-use Rattle.definitions.specs.Checks.{Verdict, refuseIf, notFinite, tableChecks, lengthCheck, radiusCheck, budgetCheck, candidateDistanceCheck, candidateOutsideCheck, widenedRadiusCheck}
+use Rattle.definitions.specs.Checks.{Verdict, refuse, refuseIf, notFinite, tableChecks, lengthCheck, radiusCheck, budgetCheck, candidateDistanceCheck, candidateOutsideCheck, widenedRadiusCheck}
 use Rattle.definitions.specs.Calls.{searchChecks}
 use Rattle.definitions.proofs.Verdicts.{refuse≢pass}
 use Rattle.theorems.specs.Refusals.{HasNumber, Numbered, check}
 use Rattle.theorems.proofs.FirstFaults.{AtFirst, mu-finite-first, mu-range-first, weight-first, target-first}
 
+-- what holds of the refusal of a test that is met holds of whatever the check refuses with
+pub refused-by : (P : Refusal → Type 0) (b : Bool) (d : Refusal) → (b ≡ true → P d) → (e : Refusal) → refuseIf b d ≡ refuse e → P e
+refused-by P true d p e q = let same : d ≡ e = cc in subst P same (p refl)
+refused-by P false d p e q = absurd (refuse≢pass (sym q))
+
 pub by-test : (b : Bool) (d : Refusal) → HasNumber (d .number) (refuseIf b d)
-by-test true d e q = let same : d ≡ e = cc in ap (λ (r : Refusal). r .number) (sym same)
-by-test false d e q = absurd (refuse≢pass (sym q))
+by-test b d = refused-by (λ (r : Refusal). r .number ≡ d .number) b d (λ q. refl)
 
 pub by-index : {v : Verdict} {n : ℕ} {Index : ℕ → Type 0} {fault : ℕ → Bool} → AtFirst v n Index fault → HasNumber n v
 by-index law e q = ap (λ (r : Refusal). r .number) (law e q .1)

@@ -17,6 +17,7 @@ pub mod Budget
 -- ---- opened prefixes and admitted vectors
 pub mod Paths
 pub mod Prefixes
+pub mod WiderRadius
 -- ---- nearest
 pub mod Covered
 pub mod Search
@@ -34,6 +35,7 @@ pub mod FirstFaults
 pub mod FirstRefusal
 pub mod CheckNumbers
 pub mod CallNumbers
+pub mod MinusZero
 pub mod Entries
 -- ---- the calls
 pub mod Endings

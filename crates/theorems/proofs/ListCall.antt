@@ -12,14 +12,14 @@ use lib.ListN.{length}
 use lib.Ieee.{Float}
 use Rattle.definitions.specs.Table.{Table}
 use Rattle.definitions.specs.Admitted.{admitted}
-use Rattle.definitions.specs.Walk.{exhausted}
+use Rattle.definitions.specs.Walk.{Walked, ended, exhausted}
 use Rattle.definitions.specs.Listing.{ListPoint, listWalk}
 use Rattle.definitions.specs.Refusals.{Refusal, whole, real, budgetExhausted, listFull}
 use Rattle.definitions.specs.Calls.{Answer, found, refused, ListAnswer, endOfList}
 use Rattle.definitions.proofs.Answers.{found≢refused, refused-same, list-exhausted, list-full, list-sorted, list-walked}
 use Rattle.theorems.specs.Ordered.{vectorsOf, StrictlyOrdered}
 use Rattle.theorems.specs.Prefixes.{openedPrefixes, admittedVectors}
-use Rattle.theorems.specs.Answers.{Listed}
+use Rattle.theorems.specs.Answers.{Listed, NoMinusZero}
 use Rattle.theorems.specs.Promises.{ListNumbers}
 use Rattle.theorems.proofs.Counts.{same-length}
 use Rattle.theorems.proofs.Prefixes.{admitted-once}
@@ -27,7 +27,8 @@ use Rattle.theorems.proofs.Unbudgeted.{Agrees}
 use Rattle.theorems.proofs.Listing.{addAll, stands, list-exact, list-agrees-prefixes}
 use Rattle.theorems.proofs.Sorting as S
 use Rattle.theorems.proofs.Standing.{list-radius}
-use Rattle.theorems.proofs.SearchCalls.{Ready, number-of-prefixes}
+use Rattle.theorems.proofs.MinusZero.{a-whole, one-whole, one-double}
+use Rattle.theorems.proofs.SearchCalls.{Ready, number-of-prefixes, plus-sign}
 
 vectors-length : (ps : List ListPoint) → length (vectorsOf ps) ≡ length ps
 vectors-length [] = refl
@@ -51,6 +52,18 @@ module _ {t : Table} {target : List Float} {R : Float} (ready : Ready t target R
       let w = list-walked places (listWalk t target R budget) a (sym is ∙ q) in
       subst (λ (ps : List ListPoint). Listed t target R ps (a .nodes) × StrictlyOrdered ps) (sym (w .3))
       (S.list-sorted t target (ready .limits) R (ready .finite) (ready .plus) budget (w .0) (w .1) (a .nodes) (w .2))
+
+  -- 15 carries R and 18 no double, so neither carries minus zero
+  pub list-no-minus-zero : (e : Refusal) → answer ≡ refused e → NoMinusZero e
+  list-no-minus-zero e q = go (listWalk t target R budget) refl (sym is ∙ q)
+    where
+      go : (w : Walked (List ListPoint)) → listWalk t target R budget ≡ w → endOfList places w ≡ refused e → NoMinusZero e
+      go (exhausted m S) w q = subst NoMinusZero (refused-same (sym (list-exhausted places m S) ∙ q)) (a-whole (one-double (plus-sign (ready .nonneg) (list-radius t target R budget m S w))))
+      go (ended ps S m) w q = end (ltb places (length ps)) refl
+        where
+          end : (b : Bool) → ltb places (length ps) ≡ b → NoMinusZero e
+          end true full = subst NoMinusZero (refused-same (sym (list-full places ps S m full) ∙ q)) one-whole
+          end false room = absurd (found≢refused (sym (list-sorted places ps S m room) ∙ q))
 
   abbrev prefixes : ℕ
   prefixes = length (openedPrefixes t target R)

@@ -1,5 +1,5 @@
 -- Each call keeps its promises, for every input of doubles: the records of `specs/Promises.antt` for the calls of the specification. Assumes nothing.
-use mathlib.Core.Path.{_≡_, sym, ap, _∙_, subst}
+use mathlib.Core.Path.{_≡_, refl, sym, ap, _∙_, subst}
 use mathlib.Core.List.{List}
 use mathlib.Core.Logic.{inl}
 use Prim.Native.Nat.{ℕ, _≤_, _<_}
@@ -11,7 +11,7 @@ use lib.IntN.{ℤ}
 use lib.Ieee.{Float, binary64, fits, lt}
 use lib.Ieee.Scale.{finite}
 use Rattle.rounding.specs.Kinds.{Finite}
-use Rattle.definitions.specs.Table.{Table, dimension, largestDimension}
+use Rattle.definitions.specs.Table.{Table, dimension, plusZero, minusZero, largestDimension}
 use Rattle.definitions.specs.Distance.{distance}
 use Rattle.definitions.specs.Admitted.{allI64, isVector}
 use Rattle.definitions.specs.Nearest.{nearestWalk}
@@ -21,29 +21,38 @@ use Rattle.definitions.specs.Refusals.{Refusal, outsideRadius, noSeed}
 use Rattle.definitions.specs.Checks.{Verdict, pass, firstRefusal, notFinite, radiusCheck, handedOn}
 use Rattle.definitions.specs.Calls.{Answer, found, refused, after, NearestPoint, endOfNearest, nearest, widenedSearch, nearestSeeded, mlRadius, nearestMl, nearestOutput, ListAnswer, endOfList, list, listDistances, listPoints, checksOfRound, round, roundOutput, plane, planeOutput, planeCoefficients}
 use Rattle.definitions.proofs.Admissions.{vector-intro}
-use Rattle.definitions.proofs.Passed.{SearchPassed, nearest-passed, radius-passed, SeededPassed, seeded-passed, ml-passed, list-passed, round-refused, round-written, plane-refused, plane-written}
+use Rattle.definitions.proofs.Passed.{SearchPassed, radius-passed, nearest-passed, SeededPassed, seeded-passed, ml-passed, list-passed, round-refused, round-written, plane-refused, plane-written}
 use Rattle.definitions.proofs.Answers.{after-pass, nearest-checks-are, nearest-is, widened-search-is, seeded-checks-are, seeded-is, ml-checks-are, ml-is, list-checks-are, list-is, distances-found, points-found, round-is, plane-is}
+use Rattle.definitions.proofs.HandedOn.{own-finite, handed-on-finite, handed-on-nonneg, handed-on-above, handed-on-below, nearest-again, seeded-again, list-again, minus-as-plus}
 use Rattle.theorems.specs.Doubles.{ofDoubles}
 use Rattle.theorems.specs.Refusals.{NoneFits}
 use Rattle.theorems.specs.Ordered.{StrictlyOrdered}
-use Rattle.theorems.specs.Answers.{Listed, Demand1}
+use Rattle.theorems.specs.Answers.{Listed, SameAdmitted, Demand1}
 use Rattle.theorems.specs.Promises.{nearestCallChecks, NearestPromises, seededCallChecks, SeededPromises, mlCallChecks, MlPromises, listCallChecks, ListPromises, RoundPromises, planeCallChecks, PlanePromises}
 use Rattle.theorems.proofs.Limits.{Limits}
+use Rattle.theorems.proofs.WiderRadius.{same-admitted}
 use Rattle.theorems.proofs.Checked.{held, failed, limits-of-checks}
-use Rattle.theorems.proofs.Seeded.{widened-double, widened-plus, candidate-below, seeded-finds, nearestPlane-vector, mlRadius-finite, mlRadius-plus, mlRadius-within}
+use Rattle.theorems.proofs.Seeded.{widened-double, widened-same, widened-nonneg, candidate-below, seeded-finds, nearestPlane-vector, mlRadius-finite, mlRadius-nonneg, mlRadius-within}
 use Rattle.theorems.proofs.FirstRefusal.{decision, first-least, numbers-below, none-passes}
 use Rattle.theorems.proofs.RefusedCalls.{demand-1, verdict-demand-1, slices-unchanged, list-own-numbers}
 use Rattle.theorems.proofs.CallNumbers.{nearest-numbered, nearest-indices, seeded-numbered, seeded-indices, ml-numbered, ml-indices, list-numbered, list-indices, round-numbered, round-index, plane-numbered, plane-indices}
+use Rattle.theorems.proofs.MinusZero.{nearest-clear, seeded-clear, ml-clear, list-clear, call-clear}
 use Rattle.theorems.proofs.EndsAsWalk.{ends-as-list-walk}
-use Rattle.theorems.proofs.SearchCalls.{Ready, SearchCall, refused-above-15, found-first, search-promises, nothing-exactly}
-use Rattle.theorems.proofs.ListCall.{list-found, list-numbers}
+use Rattle.theorems.proofs.SearchCalls.{Ready, ready-from, SearchCall, refused-above-15, found-first, search-promises, nothing-exactly}
+use Rattle.theorems.proofs.ListCall.{list-found, list-no-minus-zero, list-numbers}
 
 -- ---- the checks passed, on a table and a target of doubles
 limits-of-search : (t : Table) (target : List Float) (out : List ℤ) → T (ofDoubles t target) → SearchPassed largestDimension t target out → Limits t target
 limits-of-search t target out d p = limits-of-checks largestDimension t target (lit≤ tt) d (p .checked) (sym (p .shape .shape .target-length)) (p .targets)
 
-ready-at : (t : Table) (target : List Float) → Limits t target → (R : Float) → T (fits binary64 R) → radiusCheck R ≡ pass → Ready t target R
-ready-at t target limits R d q = record { limits = limits; finite = record { fit = d; fin = held (finite R) (radius-passed R q .0) }; plus = failed (lt R _) (radius-passed R q .1) }
+ready-at : (t : Table) (target : List Float) → Limits t target → (R : Float) → T (fits binary64 R) → radiusCheck R ≡ pass → Ready t target (handedOn R)
+ready-at t target limits R d q = ready-from limits (handed-on-finite R d q) (handed-on-nonneg R d q)
+
+-- a radius that passed and the one handed on admit and open the same
+own-at : (t : Table) (target : List Float) → Limits t target → (R : Float) → T (fits binary64 R) → radiusCheck R ≡ pass → SameAdmitted t target R (handedOn R)
+own-at t target limits R d q =
+    let r = ready-at t target limits R d q in
+    same-admitted t target limits R (handedOn R) (own-finite R d q) (failed (lt R plusZero) (radius-passed R q .1)) (r .finite) (r .plus) (handed-on-above R d q) (handed-on-below R d q)
 
 -- ---- list
 module _ (t : Table) (target distances : List Float) (points : List ℤ) (R : Float) (budget : ℕ) (doubles : T (ofDoubles t target)) (double : T (fits binary64 R)) where
@@ -56,10 +65,13 @@ module _ (t : Table) (target distances : List Float) (points : List ℤ) (R : Fl
   is : answer ≡ after (firstRefusal (listCallChecks t target distances points R budget)) end
   is = list-is t target distances points R budget ∙ ap (λ (v : Verdict). after v end) (list-checks-are t target distances points R budget)
 
-  list-ready : NoneFits (listCallChecks t target distances points R budget) → Ready t target (handedOn R)
-  list-ready f =
+  list-pass : NoneFits (listCallChecks t target distances points R budget) → Limits t target × (radiusCheck R ≡ pass)
+  list-pass f =
       let p = list-passed largestDimension t target distances points R budget (list-checks-are t target distances points R budget ∙ none-passes (listCallChecks t target distances points R budget) f) in
-      ready-at t target (limits-of-checks largestDimension t target (lit≤ tt) doubles (p .checked) (sym (p .shape .target-length)) (p .targets)) R double (p .radius)
+      (limits-of-checks largestDimension t target (lit≤ tt) doubles (p .checked) (sym (p .shape .target-length)) (p .targets), p .radius)
+
+  list-ready : NoneFits (listCallChecks t target distances points R budget) → Ready t target (handedOn R)
+  list-ready f = let (limits, passed) = list-pass f in ready-at t target limits R double passed
 
   by-walk : NoneFits (listCallChecks t target distances points R budget) → answer ≡ end
   by-walk f = is ∙ after-pass (firstRefusal (listCallChecks t target distances points R budget)) end (none-passes (listCallChecks t target distances points R budget) f)
@@ -76,25 +88,41 @@ module _ (t : Table) (target distances : List Float) (points : List ℤ) (R : Fl
         demand-1 = demand;
         least-number = first-least 0 (list-numbered t target distances points R budget) tt;
         first-indices = list-indices t target distances points R budget;
+        no-minus-zero = call-clear (list-clear t target distances points R budget) is (λ f. list-no-minus-zero (list-ready f) budget (length distances) refl);
         ends = λ f. ends-as-list-walk (listWalk t target (handedOn R) budget) distances points answer (by-walk f);
         exact = λ small a q. listed-ordered a q .0;
         order = λ small a q. listed-ordered a q .1;
         slices = λ a q. (ap (λ (x : Answer ListAnswer). listDistances x distances) q ∙ distances-found a distances, ap (λ (x : Answer ListAnswer). listPoints x points) q ∙ points-found a points);
         numbers = λ small f. list-numbers (list-ready f) budget (length distances) (by-walk f);
+        own-radius = λ f. let (limits, passed) = list-pass f in own-at t target limits R double passed;
+        at-minus-zero = λ z.
+            let same : answer ≡ list t target distances points plusZero budget =
+            ap (λ (r : Float). list t target distances points r budget) z ∙ minus-as-plus (λ r. list t target distances points r budget) (λ r. list-again t target r budget distances points)
+            in
+            (same, ap (λ (x : Answer ListAnswer). listDistances x distances) same, ap (λ (x : Answer ListAnswer). listPoints x points) same);
       }
+
+-- ---- a nearest search at minus zero, of the radii and the answers at them
+zero-alike : (out : List ℤ) (call : Float → Answer NearestPoint) → ((R : Float) → call (handedOn R) ≡ call R) → (R : Float) → R ≡ minusZero → (call R ≡ call plusZero) × (nearestOutput (call R) out ≡ nearestOutput (call plusZero) out)
+zero-alike out call again R z = let same = ap call z ∙ minus-as-plus call again in (same, ap (λ (x : Answer NearestPoint). nearestOutput x out) same)
 
 -- ---- nearest
 module _ (t : Table) (target : List Float) (out : List ℤ) (R : Float) (budget : ℕ) (doubles : T (ofDoubles t target)) (double : T (fits binary64 R)) where
+  nearest-pass : NoneFits (nearestCallChecks t target out R budget) → Limits t target × (radiusCheck R ≡ pass)
+  nearest-pass f =
+      let p = nearest-passed largestDimension t target out R budget (nearest-checks-are t target out R budget ∙ none-passes (nearestCallChecks t target out R budget) f) in
+      (limits-of-search t target out doubles (p .search), p .radius)
+
   nearest-call : SearchCall (nearestCallChecks t target out R budget) (outsideRadius (handedOn R)) t target (handedOn R) budget (nearest t target out R budget)
   nearest-call = record {
     below = numbers-below 15 (nearest-numbered t target out R budget) tt;
     least = first-least 0 (nearest-numbered t target out R budget) tt;
     indices = nearest-indices t target out R budget;
     above-15 = lit< tt;
+    clear = nearest-clear t target out R budget;
+    none-values = refl;
     is = nearest-is t target out R budget ∙ ap (λ (v : Verdict). after v (endOfNearest (outsideRadius (handedOn R)) (nearestWalk t target (handedOn R) budget))) (nearest-checks-are t target out R budget);
-    ready = λ f.
-        let p = nearest-passed largestDimension t target out R budget (nearest-checks-are t target out R budget ∙ none-passes _ f) in
-        ready-at t target (limits-of-search t target out doubles (p .search)) R double (p .radius);
+    ready = λ f. let (limits, passed) = nearest-pass f in ready-at t target limits R double passed;
   }
 
   pub nearest-promises : NearestPromises t target out R budget (nearest t target out R budget) (nearestOutput (nearest t target out R budget) out)
@@ -105,6 +133,8 @@ module _ (t : Table) (target : List Float) (out : List ℤ) (R : Float) (budget 
         list-first = λ small a q distances points b l e.
             let (listed, ordered) = listed-ordered t target distances points R b doubles double l e in
             found-first nearest-call a q (l .points) (l .nodes) listed ordered;
+        own-radius = λ f. let (limits, passed) = nearest-pass f in own-at t target limits R double passed;
+        at-minus-zero = zero-alike out (λ r. nearest t target out r budget) (λ r. nearest-again t target r budget out) R;
       }
 
 -- ---- a search at the widened radius
@@ -117,7 +147,7 @@ widening : {t : Table} {target : List Float} {R : Float} → Ready t target R �
 widening {t} {target} {R} r q = record { before = r; after = record { fit = widened-double (dimension t) R; fin = held (finite (widened (dimension t) R)) q } }
 
 ready-widened : {t : Table} {target : List Float} {R : Float} → Widening t target R → Ready t target (widened (dimension t) R)
-ready-widened {t} {target} {R} w = let r = w .before in record { limits = r .limits; finite = w .after; plus = widened-plus t target (r .limits) R (r .finite) (r .plus) (w .after) }
+ready-widened {t} {target} {R} w = let r = w .before in ready-from (r .limits) (w .after) (widened-nonneg t target (r .limits) R (r .finite) (r .nonneg) (w .after))
 
 -- such a search's answer as the end of a walk
 widened-end : (t : Table) (target : List Float) (R : Float) (budget : ℕ) {v w : Verdict} → v ≡ w → after v (widenedSearch t target R budget) ≡ after w (endOfNearest (noSeed (widened (dimension t) R)) (nearestWalk t target (widened (dimension t) R) budget))
@@ -132,10 +162,10 @@ module _ {checks : List Verdict} {t : Table} {target : List Float} {R : Float} {
       let s = start f in
       let r = s .before in
       let c = candidate f in
-      seeded-finds t target (r .limits) R (r .finite) (r .plus) (s .after) z (c .0) (c .1) budget (w .0) (w .1) (w .2)
+      seeded-finds t target (r .limits) R (r .finite) (r .nonneg) (s .after) z (c .0) (c .1) budget (w .0) (w .1) (w .2)
 
   above : 1 ≤ dimension t → NoneFits checks → T (lt (distance t target z) (widened (dimension t) R))
-  above h f = let s = start f in let r = s .before in let c = candidate f in candidate-below t target (r .limits) R (r .finite) (r .plus) (s .after) z (c .0) (c .1) h
+  above h f = let s = start f in let r = s .before in let c = candidate f in candidate-below t target (r .limits) R (r .finite) (r .nonneg) (s .after) z (c .0) (c .1) h
 
 -- ---- nearest_seeded
 module _ (t : Table) (target : List Float) (out candidate : List ℤ) (R : Float) (budget : ℕ) (doubles : T (ofDoubles t target)) (double : T (fits binary64 R)) (integers : T (allI64 candidate)) where
@@ -151,6 +181,8 @@ module _ (t : Table) (target : List Float) (out candidate : List ℤ) (R : Float
     least = first-least 0 (seeded-numbered t target out candidate R budget) tt;
     indices = seeded-indices t target out candidate R budget;
     above-15 = lit< tt;
+    clear = seeded-clear t target out candidate R budget;
+    none-values = refl;
     is = seeded-is t target out candidate R budget ∙ widened-end t target (handedOn R) budget (seeded-checks-are t target out candidate R budget);
     ready = λ f. ready-widened (seeded-start f);
   }
@@ -164,6 +196,8 @@ module _ (t : Table) (target : List Float) (out candidate : List ℤ) (R : Float
         search = search-promises seeded-call out;
         never-17 = λ small. never-17 seeded-call seeded-start candidate seeded-candidate;
         above = λ some small. above seeded-call seeded-start candidate seeded-candidate some;
+        own-radius = λ f. widened-same (dimension t) R (seeded-start f .before .limits .small) double;
+        at-minus-zero = zero-alike out (λ r. nearestSeeded t target out candidate r budget) (λ r. seeded-again t target r budget out candidate) R;
       }
 
 -- ---- nearest_ml
@@ -173,7 +207,7 @@ module _ (t : Table) (target : List Float) (out : List ℤ) (budget : ℕ) (doub
       let p = ml-passed largestDimension t target out budget (ml-checks-are t target out budget ∙ none-passes (mlCallChecks t target out budget) f) in
       let limits = limits-of-search t target out doubles (p .search) in
       let has = held (finite (mlRadius t target)) (p .total) in
-      widening (record { limits = limits; finite = mlRadius-finite t target limits has; plus = mlRadius-plus t target limits has }) (p .wide)
+      widening (ready-from limits (mlRadius-finite t target limits has) (mlRadius-nonneg t target limits has)) (p .wide)
 
   ml-call : SearchCall (mlCallChecks t target out budget) (noSeed (widened (dimension t) (mlRadius t target))) t target (widened (dimension t) (mlRadius t target)) budget (nearestMl t target out budget)
   ml-call = record {
@@ -181,6 +215,8 @@ module _ (t : Table) (target : List Float) (out : List ℤ) (budget : ℕ) (doub
     least = first-least 0 (ml-numbered t target out budget) tt;
     indices = ml-indices t target out budget;
     above-15 = lit< tt;
+    clear = ml-clear t target out budget;
+    none-values = refl;
     is = ml-is t target out budget ∙ widened-end t target (mlRadius t target) budget (ml-checks-are t target out budget);
     ready = λ f. ready-widened (ml-start f);
   }

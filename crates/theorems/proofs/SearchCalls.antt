@@ -1,54 +1,66 @@
 -- What the three nearest searches promise, by one law: of any call whose answer is its first refusal or the end of a walk from R. Assumes nothing.
 use mathlib.Core.Path.{_≡_, refl, sym, ap, _∙_, subst}
-use mathlib.Core.Logic.{_↔_, inl}
-use mathlib.Core.Bool.{not}
-use mathlib.Core.List.{List, []}
+use mathlib.Core.Logic.{_↔_, inl, inr}
+use mathlib.Core.Bool.{not, false≢true}
+use mathlib.Core.List.{List, [], _∷_, List·Memᴰ}
 use Prim.Native.Nat.{ℕ, _≤_, _<_}
 use native.Mathlib.Nat.{le-refl, le-trans, le-of-eq, le-of-lt}
 use lib.Dec.{T}
 use lib.ListN.{length}
 use lib.IntN.{ℤ}
 use lib.Ieee.{Float, binary64, lt}
-use Rattle.rounding.specs.Kinds.{Finite}
-use Rattle.definitions.specs.Table.{Table, dimension, plusZero}
+use Rattle.rounding.specs.Kinds.{Finite, NonNegative}
+use Rattle.rounding.specs.Doubles.{negative}
+use Rattle.rounding.proofs.Interface.{nonneg-not-lt}
+use Rattle.lists.specs.All.{All}
+use Rattle.definitions.specs.Table.{Table, dimension, plusZero, minusZero}
 use Rattle.definitions.specs.Distance.{distance, hasDistance}
 use Rattle.definitions.specs.Admitted.{admitted, opened}
-use Rattle.definitions.specs.Walk.{Walked, ended}
+use Rattle.definitions.specs.Walk.{Walked, ended, exhausted}
 use Rattle.definitions.specs.Nearest.{Best, no-best, best, nearestWalk}
 use Rattle.definitions.specs.Listing.{ListPoint}
-use Rattle.definitions.specs.Refusals.{Refusal}
+use Rattle.definitions.specs.Refusals.{Value, real, Refusal}
 use Rattle.definitions.specs.Checks.{Verdict, firstRefusal, targetFault}
 use Rattle.definitions.specs.Calls.{Answer, found, refused, after, NearestPoint, endOfNearest, nearestOutput}
 use Rattle.definitions.proofs.Distances.{partial-nil}
-use Rattle.definitions.proofs.Admissions.{vector-empty}
-use Rattle.definitions.proofs.Answers.{after-pass, end-nothing, output-found}
+use Rattle.definitions.proofs.Admissions.{vector-empty, admitted-vector}
+use Rattle.definitions.proofs.Answers.{after-pass, found≢refused, refused-same, end-exhausted, end-nothing, end-point, output-found}
 use Rattle.theorems.specs.Counting.{NumberOf}
 use Rattle.theorems.specs.Prefixes.{openedPrefixes}
 use Rattle.theorems.specs.Refusals.{Fits, NoneFits, FirstIsLeast, FirstIndices}
 use Rattle.theorems.specs.Ordered.{BeginsAt, StrictlyOrdered}
-use Rattle.theorems.specs.Answers.{Nearest, Listed, Demand1}
-use Rattle.theorems.specs.Promises.{NearestNodes, SearchPromises, NothingToFind}
+use Rattle.theorems.specs.Answers.{Nearest, Listed, NoMinusZero, Demand1}
+use Rattle.theorems.specs.Promises.{StandingRadius, NearestNodes, SearchPromises, NothingToFind}
 use Rattle.theorems.proofs.Limits.{Limits}
 use Rattle.theorems.proofs.Counts.{same-length}
 use Rattle.theorems.proofs.Prefixes.{opened-once}
 use Rattle.theorems.proofs.Budget.{nearest-exhausted}
-use Rattle.theorems.proofs.Sums.{admitted-distance}
+use Rattle.theorems.proofs.Sums.{distance-nonneg, admitted-distance}
 use Rattle.theorems.proofs.Least.{nearest-point, nearest-distance, nearest-nodes, nearest-enough, outside-exactly}
 use Rattle.theorems.proofs.Standing.{exhausted-radius}
 use Rattle.theorems.proofs.FirstListed.{first-listed}
 use Rattle.theorems.proofs.FirstRefusal.{decision, none-passes}
+use Rattle.theorems.proofs.MinusZero.{Clear, a-whole, one-double, call-clear}
 use Rattle.theorems.proofs.RefusedCalls.{demand-1, own-refusal, output-unchanged, nearest-own-numbers}
 use Rattle.theorems.proofs.Endings.{point-walked, refused-nothing, refused-exhausted}
 use Rattle.theorems.proofs.EndsAsWalk.{ends-as-walk}
 
--- what the laws of a walk ask for: the limits, and a finite radius that is not negative
+-- what the laws of a walk ask for: the limits, and a finite radius that is not negative; and the radius has the sign plus
 pub record Ready (t : Table) (target : List Float) (R : Float) : Type 0 where
   pub limits : Limits t target
   pub finite : Finite binary64 R
   pub plus : T (not (lt R plusZero))
+  pub nonneg : NonNegative binary64 R
+
+pub ready-from : {t : Table} {target : List Float} {R : Float} → Limits t target → Finite binary64 R → NonNegative binary64 R → Ready t target R
+ready-from limits finite nonneg = record { limits = limits; finite = finite; plus = nonneg-not-lt nonneg; nonneg = nonneg }
 
 pub number-of-prefixes : {t : Table} {target : List Float} {R : Float} → Ready t target R → NumberOf (opened t target R) (length (openedPrefixes t target R))
 number-of-prefixes {t} {target} {R} r = record { all = openedPrefixes t target R; once = opened-once t target (r .limits) R (r .finite) (r .plus); long = refl }
+
+-- what has the sign plus is not minus zero
+pub plus-sign : {x y : Float} → NonNegative binary64 x → y ≡ x → y ≡ minusZero → ⊥
+plus-sign p same z = false≢true (sym (p .plus) ∙ ap negative (sym same ∙ z))
 
 -- a call with these checks that is otherwise the end of its walk from R
 pub record SearchCall (checks : List Verdict) (none : Refusal) (t : Table) (target : List Float) (R : Float) (budget : ℕ) (answer : Answer NearestPoint) : Type 0 where
@@ -56,6 +68,8 @@ pub record SearchCall (checks : List Verdict) (none : Refusal) (t : Table) (targ
   pub least : FirstIsLeast checks
   pub indices : FirstIndices checks t targetFault target
   pub above-15 : 15 < none .number
+  pub clear : All Clear checks
+  pub none-values : none .values ≡ real R ∷ []
   pub is : answer ≡ after (firstRefusal checks) (endOfNearest none (nearestWalk t target R budget))
   pub ready : NoneFits checks → Ready t target R
 
@@ -71,6 +85,24 @@ module _ {checks : List Verdict} {none : Refusal} {t : Table} {target : List Flo
   refused-above-15 e q h =
       let f = own-refusal (call .below) (le-refl 15) (le-of-lt (call .above-15)) (nearest-own-numbers none walk) (call .is) e q (le-of-lt h) in
       (f, refused-nothing none walk e h (sym (by-walk f) ∙ q))
+
+  -- the radius that stood with 15 is R or the distance of a vector, so neither 15 nor `none` carries minus zero
+  end-clear : NoneFits checks → (w : Walked Best) → walk ≡ w → (e : Refusal) → endOfNearest none w ≡ refused e → NoMinusZero e
+  end-clear f (exhausted m S) w e q = subst NoMinusZero (refused-same (sym (end-exhausted none m S) ∙ q)) (a-whole (one-double (stood (exhausted-radius t target (r .limits) R (r .finite) (r .plus) budget m S w))))
+    where
+      r : Ready t target R
+      r = call .ready f
+
+      stood : StandingRadius t target R S → S ≡ minusZero → ⊥
+      stood (inl s) = plus-sign (r .nonneg) s
+      stood (inr (z, a, s)) = plus-sign (distance-nonneg t target (r .limits) z (admitted-vector t target R z a)) s
+  end-clear f (ended no-best S m) w e q =
+      subst NoMinusZero (refused-same (sym (end-nothing none S m) ∙ q))
+      (subst (λ (vs : List Value). List·Memᴰ (real minusZero) vs → ⊥) (sym (call .none-values)) (one-double (plus-sign (call .ready f .nonneg) refl)))
+  end-clear f (ended (best zs) S m) w e q = absurd (found≢refused (sym (end-point none zs S m) ∙ q))
+
+  no-minus-zero : (e : Refusal) → answer ≡ refused e → NoMinusZero e
+  no-minus-zero = call-clear (call .clear) (call .is) (λ f. end-clear f walk refl)
 
   -- promise 1, whatever the output slice holds
   demand : (out : List ℤ) → Demand1 checks 15 (none .number) answer (nearestOutput answer out ≡ out)
@@ -125,6 +157,7 @@ module _ {checks : List Verdict} {none : Refusal} {t : Table} {target : List Flo
           demand-1 = demand out;
           least-number = call .least;
           first-indices = call .indices;
+          no-minus-zero = no-minus-zero;
           ends = λ f. ends-as-walk none walk out answer (by-walk f);
           point = λ small. point;
           own-distance = λ small. own-distance;

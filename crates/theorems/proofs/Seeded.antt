@@ -1,7 +1,7 @@
 -- The widened radius is not negative, and with a candidate within the radius the search at it never ends with no best, so number 17 cannot come. The point of `nearest_plane` is such a candidate for its own distance. Assumes nothing.
 use mathlib.Core.Path.{_≡_, refl, sym, ap, _∙_, subst}
 use mathlib.Core.Logic.{_⊎_, inl, inr}
-use Prim.Native.Nat.{ℕ, zero, suc, _+_, _<_}
+use Prim.Native.Nat.{ℕ, zero, suc, _+_, _≤_, _<_}
 use native.Mathlib.Nat.{eq-zero-or-pos, zero-add, add-zero, suc-add, add-suc, suc-ne-zero}
 use mathlib.Core.Bool.{not}
 use mathlib.Core.List.{List, [], _∷_}
@@ -13,13 +13,14 @@ use lib.Ieee.Scale.{finite}
 use lib.Ieee.Fits.{and-i}
 use Rattle.rounding.specs.Integers.{roundAway}
 use Rattle.rounding.specs.Kinds.{Finite, NonNegative}
-use Rattle.rounding.proofs.Interface.{number, float-le-refl, float-le-lt-trans, not-lt→le, le→not-lt, nonneg-not-lt, roundAway-isI64, widened as widenedBy, widening-fits, widening-lt, widening-plus}
+use Rattle.rounding.proofs.Interface.{number, float-le-refl, float-le-lt-trans, not-lt→le, le→not-lt, nonneg-not-lt, roundAway-isI64, widened as widenedBy, widening-fits, widening-lt, widening-nonneg, widening-same}
 use Rattle.definitions.specs.Table.{Table, dimension, coordinate, plusZero}
 use Rattle.definitions.specs.Distance.{distance}
 use Rattle.definitions.specs.Admitted.{allI64, isVector, passes, admitted}
 use Rattle.definitions.specs.Walk.{ended}
 use Rattle.definitions.specs.Nearest.{no-best, nearestWalk}
 use Rattle.definitions.specs.Seeds.{sumFrom, Plane, planeLevel, planeLevels, nearestPlane, widened}
+use Rattle.definitions.specs.Checks.{handedOn}
 use Rattle.definitions.specs.Calls.{mlRadius}
 use Rattle.definitions.proofs.Admissions.{allI64-nil, allI64-intro, vector-length, vector-intro, passes-nil, admitted-is}
 use Rattle.definitions.proofs.Leaves.{plane-point, plane-zero, plane-suc, plane-is}
@@ -33,18 +34,22 @@ widened-is : (n : ℕ) (R : Float) → widened n R ≡ widenedBy n R
 unfolding widened
 widened-is n R = refl
 
+-- that of the radius handed on is that of the radius
+pub widened-same : (n : ℕ) (R : Float) → n ≤ 64 → T (fits binary64 R) → widened n R ≡ widened n (handedOn R)
+widened-same n R few d = widened-is n R ∙ widening-same n R few d ∙ sym (widened-is n (handedOn R))
+
 -- it is a double, whatever the radius
 pub widened-double : (n : ℕ) (R : Float) → T (fits binary64 (widened n R))
 widened-double n R = subst (λ (x : Float). T (fits binary64 x)) (sym (widened-is n R)) (widening-fits n R)
 
-module _ (t : Table) (target : List Float) (limits : Limits t target) (R : Float) (fin : Finite binary64 R) (plus : T (not (lt R plusZero))) (wide : Finite binary64 (widened (dimension t) R)) where
+module _ (t : Table) (target : List Float) (limits : Limits t target) (R : Float) (fin : Finite binary64 R) (nonneg : NonNegative binary64 R) (wide : Finite binary64 (widened (dimension t) R)) where
   -- it is above the radius, if n is not 0
   above : 0 < dimension t → T (lt R (widened (dimension t) R))
-  above h = subst (λ (x : Float). T (lt R x)) (sym (widened-is (dimension t) R)) (widening-lt (dimension t) R (limits .small) fin plus h)
+  above h = subst (λ (x : Float). T (lt R x)) (sym (widened-is (dimension t) R)) (widening-lt (dimension t) R (limits .small) fin (nonneg-not-lt nonneg) h)
 
-  -- it is not negative
-  pub widened-plus : T (not (lt (widened (dimension t) R) plusZero))
-  widened-plus = subst (λ (x : Float). T (not (lt x plusZero))) (sym (widened-is (dimension t) R)) (widening-plus (dimension t) R (limits .small) fin plus (subst (Finite binary64) (widened-is (dimension t) R) wide))
+  -- it has the sign plus
+  pub widened-nonneg : NonNegative binary64 (widened (dimension t) R)
+  widened-nonneg = subst (NonNegative binary64) (sym (widened-is (dimension t) R)) (widening-nonneg (dimension t) R (limits .small) fin (nonneg-not-lt nonneg) nonneg)
 
   module _ (z : List ℤ) (v : T (isVector t z)) (h : T (not (lt R (distance t target z)))) where
     -- the widened radius is strictly above the distance of a candidate within the radius
@@ -64,7 +69,7 @@ module _ (t : Table) (target : List Float) (limits : Limits t target) (R : Float
 
     -- so the search never ends with no best
     pub seeded-finds : (budget : ℕ) (S : Float) (m : ℕ) → nearestWalk t target (widened (dimension t) R) budget ≡ ended no-best S m → ⊥
-    seeded-finds budget S m e = outside-exactly t target limits (widened (dimension t) R) wide widened-plus budget .0 (S, m, e) .0 z candidate-admitted
+    seeded-finds budget S m e = outside-exactly t target limits (widened (dimension t) R) wide (nonneg-not-lt widened-nonneg) budget .0 (S, m, e) .0 z candidate-admitted
 
 -- ---- the point of `nearest_plane`
 plane-vector : (t : Table) (coefficients : List Float) (d : ℕ) (s : Plane) → T (allI64 (s .point)) → length (s .point) + d ≡ dimension t → T (isVector t (planeLevels t coefficients d s .point))
@@ -88,17 +93,14 @@ unfolding mlRadius
 mlRadius-is t target = refl
 
 module _ (t : Table) (target : List Float) (limits : Limits t target) (has : T (finite (mlRadius t target))) where
-  ml-nonneg : NonNegative binary64 (mlRadius t target)
-  ml-nonneg = subst (NonNegative binary64) (sym (mlRadius-is t target)) (distance-nonneg t target limits (nearestPlane t target .point) (nearestPlane-vector t target))
+  pub mlRadius-nonneg : NonNegative binary64 (mlRadius t target)
+  mlRadius-nonneg = subst (NonNegative binary64) (sym (mlRadius-is t target)) (distance-nonneg t target limits (nearestPlane t target .point) (nearestPlane-vector t target))
 
   pub mlRadius-finite : Finite binary64 (mlRadius t target)
-  mlRadius-finite = record { fit = ml-nonneg .num .fit; fin = has }
-
-  pub mlRadius-plus : T (not (lt (mlRadius t target) plusZero))
-  mlRadius-plus = nonneg-not-lt ml-nonneg
+  mlRadius-finite = record { fit = mlRadius-nonneg .num .fit; fin = has }
 
   -- the point is within that radius
   pub mlRadius-within : T (not (lt (mlRadius t target) (distance t target (nearestPlane t target .point))))
   mlRadius-within =
-      let n = ml-nonneg .num in
+      let n = mlRadius-nonneg .num in
       subst (λ (x : Float). T (not (lt (mlRadius t target) x))) (mlRadius-is t target) (le→not-lt binary64 n n (float-le-refl binary64 n))

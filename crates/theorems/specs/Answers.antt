@@ -1,20 +1,20 @@
 -- What the theorems say of a call's answer: of a point, of a list, of its walk's end, and of its refusals. Definitions only.
 use mathlib.Core.Path.{_≡_}
 use mathlib.Core.Bool.{not}
-use mathlib.Core.List.{List, map}
+use mathlib.Core.List.{List, map, List·Memᴰ}
 use mathlib.Core.Logic.{_⊎_, _↔_}
 use Prim.Native.Nat.{ℕ, _≤_, _<_}
 use lib.Dec.{T}
 use lib.ListN.{length}
 use lib.IntN.{ℤ}
 use lib.Ieee.{Float, lt}
-use Rattle.definitions.specs.Table.{Table}
+use Rattle.definitions.specs.Table.{Table, minusZero}
 use Rattle.definitions.specs.Distance.{distance}
 use Rattle.definitions.specs.Admitted.{isVector, admitted, opened}
 use Rattle.definitions.specs.Walk.{Walked, ended, exhausted}
 use Rattle.definitions.specs.Nearest.{Best, no-best, best}
 use Rattle.definitions.specs.Listing.{ListPoint, sorted}
-use Rattle.definitions.specs.Refusals.{Refusal, budgetExhausted, listFull}
+use Rattle.definitions.specs.Refusals.{Refusal, real, budgetExhausted, listFull}
 use Rattle.definitions.specs.Checks.{Verdict, pass, refuse}
 use Rattle.definitions.specs.Calls.{Answer, found, refused, NearestPoint, ListAnswer, written, coordinates}
 use Rattle.theorems.specs.Counting.{EachOnce, NumberOf}
@@ -48,6 +48,15 @@ pub record EndsAsListWalk (w : Walked (List ListPoint)) (distances : List Float)
   pub full : (ps : List ListPoint) (S : Float) (m : ℕ) → w ≡ ended ps S m → length distances < length ps →
       (answer ≡ refused (listFull (length ps))) × (distances′ ≡ distances) × (points′ ≡ points)
   pub exhaustion : (m : ℕ) (S : Float) → w ≡ exhausted m S → (answer ≡ refused (budgetExhausted m S)) × (distances′ ≡ distances) × (points′ ≡ points)
+
+-- two radii that admit the same vectors and open the same prefixes
+pub record SameAdmitted (t : Table) (target : List Float) (R S : Float) : Type 0 where
+  pub admits : (z : List ℤ) → admitted t target R z ≡ admitted t target S z
+  pub opens : (zs : List ℤ) → opened t target R zs ≡ opened t target S zs
+
+-- minus zero is not among the values of a refusal
+abbrev pub NoMinusZero : Refusal → Type 0
+NoMinusZero e = List·Memᴰ (real minusZero) (e .values) → ⊥
 
 -- a refusal under the one number or the other
 abbrev pub Under : ℕ → ℕ → Refusal → Type 0

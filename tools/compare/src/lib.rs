@@ -37,6 +37,12 @@ pub struct Comparison {
 #[must_use]
 pub fn compare(case: &Case) -> Comparison {
     let (port, trespasses) = port::run(case);
+    compare_with(case, port, trespasses)
+}
+
+/// The same of an answer, and of what the call changed that no call may change.
+#[must_use]
+pub fn compare_with(case: &Case, port: Answer, trespasses: Vec<&'static str>) -> Comparison {
     let expected::Expected { answer, disagreement } = expected::expected(case);
     let mut remarks: Vec<String> = trespasses.into_iter().map(String::from).chain(disagreement).collect();
     let other_first = listed::listed(case, &answer).map(|Listed { other_first, remarks: amiss }| {

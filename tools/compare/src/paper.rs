@@ -46,6 +46,12 @@ pub fn plane(mu: &[f64], coefficients: &mut [f64]) -> Vec<i64> {
     point
 }
 
+/// The radius that 8 hands on to 12, to the widening and to every walk: plus zero where the call's is minus zero.
+#[must_use]
+pub fn handed_on(radius: f64) -> f64 {
+    if radius == 0.0 { 0.0 } else { radius }
+}
+
 /// The radius with which a seeded search walks.
 #[must_use]
 pub fn widened(radius: f64, n: usize) -> f64 {
@@ -93,7 +99,7 @@ impl Opened<'_> {
 #[must_use]
 pub fn opened(case: &Case, radius: f64, cap: u64) -> Option<u64> {
     let n = case.weights.len();
-    let mut walk = Opened { case, radius, point: vec![0; n], count: 0, cap };
+    let mut walk = Opened { case, radius: handed_on(radius), point: vec![0; n], count: 0, cap };
     walk.below(n, 0.0).then_some(walk.count)
 }
 
@@ -176,9 +182,9 @@ fn seed(case: &Case) -> Option<Report> {
     match case.call {
         Call::Seeded if case.candidate.len() != n => Some(Report::whole(10, n as u64, case.candidate.len() as u64)),
         Call::Seeded => {
-            let d = of(&case.candidate);
-            let outside = || (d > case.radius).then(|| Report::double(12, case.radius));
-            overflow(d).or_else(outside).or_else(|| beyond(case.radius, n))
+            let (d, radius) = (of(&case.candidate), handed_on(case.radius));
+            let outside = || (d > radius).then(|| Report::double(12, radius));
+            overflow(d).or_else(outside).or_else(|| beyond(radius, n))
         }
         Call::Ml => {
             let d = of(&plane(&case.mu, &mut case.target.clone()));

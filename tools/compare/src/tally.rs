@@ -7,6 +7,9 @@ use std::time::Duration;
 const DIMENSIONS: usize = 25;
 const NUMBERS: usize = 19;
 
+/// The refusals that carry the radius which 8 hands on, 15 until a leaf is found. In a seeded search 15 has another.
+const CARRYING: [(Call, u32); 4] = [(Call::Seeded, 12), (Call::Nearest, 15), (Call::List, 15), (Call::Nearest, 16)];
+
 #[derive(Default)]
 pub struct Tally {
     by_number: [[u64; NUMBERS]; CALLS.len()],
@@ -21,6 +24,8 @@ pub struct Tally {
     /// Nearest points beside which their list was compared, and those of them whose list begins with another point.
     listed: u64,
     other_first: u64,
+    /// Calls with a radius of minus zero that were refused so.
+    minus_zero: [u64; CARRYING.len()],
 }
 
 fn row(name: &str, cells: &[u64]) -> String {
@@ -58,6 +63,10 @@ impl Tally {
             self.lossy += beyond(1 << 53);
             self.ends += beyond((1 << 63) - 1024);
         }
+        let refused = CARRYING.iter().position(|k| *k == (case.call, answer.report.number));
+        if let Some(place) = refused.filter(|_| case.radius.to_bits() == (-0.0_f64).to_bits()) {
+            self.minus_zero[place] += 1;
+        }
     }
 
     #[must_use]
@@ -65,7 +74,7 @@ impl Tally {
         self.by_number.iter().flatten().sum()
     }
 
-    /// Two markdown tables and two lines.
+    /// Two markdown tables and three lines.
     #[must_use]
     pub fn text(&self, time: Duration) -> String {
         let mut text = String::from("| call | success |");
@@ -84,11 +93,15 @@ impl Tally {
         }
         text.push_str(&row("all", &sum(&self.by_dimension)));
         text.push_str(&row("points and lists found", &self.found));
-        let Self { nodes, lossy, ends, listed, other_first, .. } = self;
+        let Self { nodes, lossy, ends, listed, other_first, minus_zero, .. } = self;
+        let refused =
+            CARRYING.iter().zip(minus_zero).map(|((call, k), count)| format!("{} by {k}: {count}", call.name()));
+        let refused = refused.collect::<Vec<_>>().join(", ");
         let (cases, seconds) = (self.total(), time.as_secs_f64());
         text.push_str(&format!(
             "\n{cases} cases, {nodes} nodes, {seconds:.1} s; found beyond 2^53: {lossy}, at an end of i64: {ends}\n\
-             nearest points beside their list: {listed}, the list beginning with another point: {other_first}\n"
+             nearest points beside their list: {listed}, the list beginning with another point: {other_first}\n\
+             refused at a radius of minus zero: {refused}\n"
         ));
         text
     }

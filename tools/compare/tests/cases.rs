@@ -1,10 +1,10 @@
 //! The specification's bench cases A to L: the answers that it gives, of the port and of what the comparison expects; a
-//! distance by its bits; and the list beside a nearest point.
+//! distance by its bits; a radius of minus zero; and the list beside a nearest point.
 
 use compare::answer::{Answer, Report, before};
 use compare::case::{Call, Case};
 use compare::listed::listed;
-use compare::{Comparison, compare};
+use compare::{Comparison, compare, compare_with};
 
 const ULP: f64 = f64::EPSILON;
 const LIMIT: f64 = 4_503_599_627_370_496.0;
@@ -115,6 +115,90 @@ fn distance() {
     found(&case(Call::Nearest, 1.3), &[-2, 0, 2], 9, distance);
     found(&case(Call::Seeded, 0.6).with_candidate(&[-1, 1, 2]), &[-2, 0, 2], 5, distance);
     found(&case(Call::Ml, 0.0), &[-2, 0, 2], 5, distance);
+}
+
+// ---- a radius of minus zero
+
+const SMALLEST: f64 = f64::from_bits(1);
+const MINUS_ZERO: u64 = (-0.0_f64).to_bits();
+
+/// Each is refused with the radius that 8 hands on, plus zero, where the Rust gives minus zero back. The distances of a
+/// list hold minus zero at their fifth place before the call.
+fn refused_at_minus_zero() -> Vec<(Case, Report)> {
+    let two = |call| Case::new(call, &[1.0; 2], &[0.0; 4], &[1.0; 2], -0.0, 1);
+    vec![
+        (one(Call::Nearest, 1.0, HALF, -0.0, 100), Report::double(16, 0.0)),
+        (one(Call::Nearest, 1.0, 1.0, -0.0, 0), exhausted(0, 0.0)),
+        (one(Call::List, 1.0, 1.0, -0.0, 0).with_places(5), exhausted(0, 0.0)),
+        (two(Call::Nearest), exhausted(1, 0.0)),
+        (two(Call::List).with_places(5), exhausted(1, 0.0)),
+        (one(Call::Seeded, 1.0, HALF, -0.0, 100).with_candidate(&[0]), Report::double(12, 0.0)),
+    ]
+}
+
+/// Coefficients of which minus zero is left.
+fn plane_to_minus_zero() -> Case {
+    Case::new(Call::Plane, &[1.0; 2], &[0.0; 4], &[-0.0, 3.0], 0.0, 0)
+}
+
+#[test]
+fn minus_zero_refused() {
+    for (case, report) in refused_at_minus_zero() {
+        refused(&case, report);
+    }
+}
+
+/// What is found is the same at both zeros, and so is the widened radius.
+#[test]
+fn minus_zero_found() {
+    for radius in [0.0, -0.0] {
+        let seeded = |budget| one(Call::Seeded, 1.0, 1.0, radius, budget).with_candidate(&[1]);
+        found(&one(Call::Nearest, 1.0, 1.0, radius, 1), &[1], 1, 0.0);
+        found(&seeded(1), &[1], 1, 0.0);
+        refused(&seeded(0), exhausted(0, 4.0 * ULP));
+        answers(&one(Call::List, 1.0, 1.0, radius, 1), Report::whole(0, 1, 1), &[1], &[0.0]);
+    }
+}
+
+/// -2^-1074 is below 0, and 8 carries it as it is.
+#[test]
+fn below_zero() {
+    for call in [Call::Nearest, Call::Seeded, Call::List] {
+        refused(&one(call, 1.0, HALF, -SMALLEST, 100), Report::double(8, -SMALLEST));
+    }
+}
+
+/// Only the radius of these refusals counts as zero: coefficients keep their sign, and so do slices that stay.
+#[test]
+fn other_minus_zeros_stay() {
+    answers(&plane_to_minus_zero(), Report::default(), &[0, 3], &[-0.0, 0.0]);
+    for (case, _) in refused_at_minus_zero().iter().filter(|(case, _)| case.call == Call::List) {
+        assert_eq!(compare(case).expected.doubles[4], MINUS_ZERO, "{case}");
+    }
+}
+
+fn differs(case: &Case, port: Answer) -> bool {
+    compare_with(case, port, Vec::new()).difference.is_some()
+}
+
+/// A port whose refusal or distance is minus zero for plus zero differs, and one that leaves plus zero for minus zero.
+#[test]
+fn signs_are_compared() {
+    let told = [one(Call::Nearest, 1.0, 1.0, -0.0, 1), one(Call::Distance, 1.0, 0.0, 0.0, 0)];
+    for case in refused_at_minus_zero().into_iter().map(|(case, _)| case).chain(told) {
+        let Comparison { expected, .. } = compare(&case);
+        assert_eq!(expected.report.real, 0, "{case}");
+        let minus = Report { real: MINUS_ZERO, ..expected.report };
+        assert!(!differs(&case, expected.clone()), "{case}");
+        assert!(differs(&case, Answer { report: minus, ..expected }), "{case}");
+    }
+    let list = one(Call::List, 1.0, 1.0, -0.0, 1);
+    for (case, other) in [(list, MINUS_ZERO), (plane_to_minus_zero(), 0)] {
+        let Comparison { mut expected, .. } = compare(&case);
+        assert!(!differs(&case, expected.clone()), "{case}");
+        expected.doubles[0] = other;
+        assert!(differs(&case, expected), "{case}");
+    }
 }
 
 // ---- the list beside a nearest point

@@ -20,12 +20,13 @@ mod seeded {
     use oracle::enumerate::EnumerationScratch;
     use oracle::error::DecodeError;
 
-    /// 11, 12 or 13, by the candidate's distance. Each carries what the original's InvalidRadius carries.
-    fn candidate_fault(table: &Enumerator, target: &[f64], candidate: &[i64], radius: f64, carried: f64) -> Refusal {
+    /// 11, 12 or 13, by the candidate's distance. Each carries what the original's InvalidRadius carries, which is
+    /// `value`; in 12 minus zero is taken as zero.
+    fn candidate_fault(table: &Enumerator, target: &[f64], candidate: &[i64], radius: f64, value: f64) -> Refusal {
         match table.triangular_distance(target, candidate) {
-            Err(_) => Refusal::CandidateDistance(carried),
-            Ok(distance) if distance > radius => Refusal::CandidateOutside(carried),
-            Ok(_) => Refusal::WidenedRadius(carried),
+            Err(_) => Refusal::CandidateDistance(value),
+            Ok(distance) if distance > radius => Refusal::CandidateOutside(common::carried(value)),
+            Ok(_) => Refusal::WidenedRadius(value),
         }
     }
 

@@ -100,3 +100,16 @@ fn lines() {
     assert_eq!(oracle::answer("nearest_seeded 0 - - - 4010000000000000 0 -"), "found 0 0000000000000000 [ ]");
     assert_eq!(oracle::answer("nearest 0 - - - 8000000000000000 0 -"), "found 0 0000000000000000 [ ]");
 }
+
+/// The original gives a radius of minus zero back, and its lines say so: targets of a half and of 1, candidate [0].
+#[test]
+fn minus_zero() {
+    let answer = |call, target, budget| {
+        oracle::answer(&format!("{call} 1 3ff0000000000000 0000000000000000 {target} 8000000000000000 {budget} 0"))
+    };
+    let (half, whole) = ("3fe0000000000000", "3ff0000000000000");
+    assert_eq!(answer("nearest", half, 100), "OutsideRadius(8000000000000000)");
+    assert_eq!(answer("nearest", whole, 0), "BudgetExhausted(0, 8000000000000000)");
+    assert_eq!(answer("list", whole, 0), "BudgetExhausted(0, 8000000000000000)");
+    assert_eq!(answer("nearest_seeded", half, 100), "InvalidRadius(8000000000000000)");
+}

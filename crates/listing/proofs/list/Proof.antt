@@ -1,5 +1,5 @@
 -- `list` meets its contract: a refusal of its checks leaves both slices, and a pass goes on to arrays of one of three sizes. Assumes nothing.
-use mathlib.Core.Path.{_≡_, refl, ap, sym, _∙_, subst}
+use mathlib.Core.Path.{_≡_, refl, ap, sym, _∙_}
 use mathlib.Core.List.{List}
 use Prim.Native.Nat.{ℕ, _*_, _≤_}
 use lib.ListN.{length}
@@ -12,19 +12,17 @@ use Rattle.definitions.specs.Calls as C
 use Rattle.definitions.proofs.Passed.{list-passed}
 use Rattle.definitions.proofs.Answers.{list-checks-are, list-refused}
 use Rattle.refusals.specs.Numbers.{verdict, numbered}
-use Rattle.listing.specs.View.{ListAnswered}
 use Rattle.listing.specs.Ready.{ListFits}
 use Rattle.listing.specs.Sizes.{shortList}
 use Rattle.listing.proofs.Buffers.{points-fit}
-use Rattle.listing.specs.declared.ListAnswer.{ListAnswer}
 use Rattle.listing.proofs.Endings.{answer-refused}
 use Rattle.listing.proofs.list.Statement.{statement}
 use Rattle.listing.proofs.list.Tie as tie
 
--- ---- once the radius is handed on
-module _ (c : tie.After-handed-on) where
+-- ---- once the checks have passed
+module _ (c : tie.After-enum-told) where
   abbrev entry : tie.Start
-  entry = c .before .before .before .before .before .before .before .before .before .before
+  entry = c .before .before .before .before .before .before .before .before .before
 
   -- the slices at entry
   abbrev own : List Float
@@ -36,28 +34,14 @@ module _ (c : tie.After-handed-on) where
   abbrev t : Table
   t = table (entry .args .weights .now) (entry .args .mu .now)
 
-  abbrev answerAt : Float → C.Answer C.ListAnswer
-  answerAt R = C.list t (entry .args .target .now) own coordinates R (entry .args .budget)
-
-  abbrev R : Float
-  R = c .handed-on .result
-
-  passed : C.listChecks largestDimension t (entry .args .target .now) own coordinates R (entry .args .budget) ≡ pass
-  passed =
-      ap (λ (x : Float). C.listChecks largestDimension t (entry .args .target .now) own coordinates x (entry .args .budget)) (c .handed-on .ensures)
-      ∙ list-checks-are t (entry .args .target .now) own coordinates (entry .args .radius) (entry .args .budget)
-      ∙ sym (c .before .before .before .list-check .ensures)
-      ∙ ap verdict (c .before .enum-told .given .1)
+  passed : C.listChecks largestDimension t (entry .args .target .now) own coordinates (entry .args .radius) (entry .args .budget) ≡ pass
+  passed = list-checks-are t (entry .args .target .now) own coordinates (entry .args .radius) (entry .args .budget) ∙ sym (c .before .before .list-check .ensures) ∙ ap verdict (c .enum-told .given .1)
 
   few : length own ≤ largestList
-  few = list-passed largestDimension t (entry .args .target .now) own coordinates R (entry .args .budget) passed .places
+  few = list-passed largestDimension t (entry .args .target .now) own coordinates (entry .args .radius) (entry .args .budget) passed .places
 
-  fits : (places : ℕ) → length own ≤ places → ListFits t (entry .args .target .now) own coordinates R (entry .args .budget) places (places * largestDimension)
-  fits places h = record { passed = passed; places-fit = h; points-fit = points-fit places t (entry .args .target .now) own coordinates R (entry .args .budget) passed h }
-
-  -- what a call says at that radius, it says at the radius given
-  handed : {r : ListAnswer} {ds : List Float} {ps : List ℤ} → ListAnswered (answerAt R) r own ds coordinates ps → ListAnswered (answerAt (entry .args .radius)) r own ds coordinates ps
-  handed {r} {ds} {ps} h = subst (λ (x : Float). ListAnswered (answerAt x) r own ds coordinates ps) (c .handed-on .ensures) h
+  fits : (places : ℕ) → length own ≤ places → ListFits t (entry .args .target .now) own coordinates (entry .args .radius) (entry .args .budget) places (places * largestDimension)
+  fits places h = record { passed = passed; places-fit = h; points-fit = points-fit places t (entry .args .target .now) own coordinates (entry .args .radius) (entry .args .budget) passed h }
 
 returns : tie.Need-returns
 returns c =
@@ -72,25 +56,19 @@ list-short-requires : tie.Need-list-short-requires
 list-short-requires c κs = fits (c .before .before .before) shortList (c .before .before .if1 .taken)
 
 returns-2 : tie.Need-returns-2
-returns-2 c =
-    let done = c .before .before .before in
-    handed (done .before .before .before .before) (done .list-short .ensures)
+returns-2 c = c .before .before .before .list-short .ensures
 
 list-middle-requires : tie.Need-list-middle-requires
 list-middle-requires c κs = let h = c .before .before .before .before in record { passed = passed h; places-fit = few h; points-fit = c .before .before .if2 .taken }
 
 returns-3 : tie.Need-returns-3
-returns-3 c =
-    let done = c .before .before .before in
-    handed (done .before .before .before .before .before) (done .list-middle .ensures)
+returns-3 c = c .before .before .before .list-middle .ensures
 
 list-long-requires : tie.Need-list-long-requires
 list-long-requires c κs = let h = c .before .before .before .before in fits h largestList (few h)
 
 returns-4 : tie.Need-returns-4
-returns-4 c =
-    let done = c .before .before .before in
-    handed (done .before .before .before .before .before) (done .list-long .ensures)
+returns-4 c = c .before .before .before .list-long .ensures
 
 pub list-spec : {M : Type 1} → statement M
 list-spec =
@@ -102,7 +80,6 @@ list-spec =
     (λ c. search needs)
     returns
     (λ c. search needs)
-    (λ c κs. search needs)
     list-short-requires
     (λ c. search needs)
     (λ c. search needs)

@@ -15,6 +15,7 @@ use Rattle.definitions.specs.Table.{table, largestDimension}
 use Rattle.definitions.specs.Walk.{ended}
 use Rattle.definitions.specs.Listing.{ListPoint, listWalk}
 use Rattle.definitions.specs.Refusals.{budgetExhausted, listFull}
+use Rattle.definitions.specs.Checks.{handedOn}
 use Rattle.definitions.specs.Calls.{found, refused, endOfList, list}
 use Rattle.definitions.proofs.Passed.{ListPassed, list-passed}
 use Rattle.definitions.proofs.Answers.{list-checked, list-exhausted, list-full, list-sorted}
@@ -43,32 +44,40 @@ vectors-length b =
     let a = b .args in
     b .pre .vectors-length ∙ known b .room ∙ mul-comm (length (a .weights .now)) (length (a .distances .now)) ∙ ap (λ (k : ℕ). k * length (a .weights .now)) (sym (b .pre .measured-length))
 
+-- the walk starts from the radius that is handed on
+from-handed-on : (c : tie.After-list-walk) →
+    let a = c .before .before .before .before .before .before .before .before .before .before .before .args in
+    listWalk (table (a .weights .now) (a .mu .now)) (a .target .now) (c .before .before .before .handed-on .result) (a .budget) ≡ listWalk (table (a .weights .now) (a .mu .now)) (a .target .now) (handedOn (a .radius)) (a .budget)
+from-handed-on c =
+    let a = c .before .before .before .before .before .before .before .before .before .before .before .args in
+    ap (λ (R : Float). listWalk (table (a .weights .now) (a .mu .now)) (a .target .now) R (a .budget)) (c .before .before .before .handed-on .ensures)
+
 ending : (c : tie.After-list-walk) →
-    let a = c .before .before .before .before .before .before .before .before .before .before .args in
-    endingOf (listWalk (table (a .weights .now) (a .mu .now)) (a .target .now) (a .radius) (a .budget)) ≡ c .list-walk .result
-ending c = sym (c .list-walk .ensures .ending)
+    let a = c .before .before .before .before .before .before .before .before .before .before .before .args in
+    endingOf (listWalk (table (a .weights .now) (a .mu .now)) (a .target .now) (handedOn (a .radius)) (a .budget)) ≡ c .list-walk .result
+ending c = ap endingOf (sym (from-handed-on c)) ∙ sym (c .list-walk .ensures .ending)
 
 -- what the walk stored, if there were places for all
 stored : (c : tie.After-list-walk) →
-    let a = c .before .before .before .before .before .before .before .before .before .before .args in
-    (ps : List ListPoint) (S : Float) (m : ℕ) → listWalk (table (a .weights .now) (a .mu .now)) (a .target .now) (a .radius) (a .budget) ≡ ended ps S m → length ps ≤ length (a .measured .now) →
+    let a = c .before .before .before .before .before .before .before .before .before .before .before .args in
+    (ps : List ListPoint) (S : Float) (m : ℕ) → listWalk (table (a .weights .now) (a .mu .now)) (a .target .now) (handedOn (a .radius)) (a .budget) ≡ ended ps S m → length ps ≤ length (a .measured .now) →
     rows (length (a .weights .now)) (length ps) (fourth (c .list-walk .last)) (fifth (c .list-walk .last)) ≡ reverse ps
 stored c ps S m e h =
-    let a = c .before .before .before .before .before .before .before .before .before .before .args in
+    let a = c .before .before .before .before .before .before .before .before .before .before .before .args in
     let n = length (a .weights .now) in
     let room = length (a .measured .now) in
     let all : length ps ≡ min (length ps) room = omega arith in
     ap (λ (k : ℕ). rows n k (fourth (c .list-walk .last)) (fifth (c .list-walk .last))) all
-    ∙ c .list-walk .ensures .stored ps S m e
+    ∙ c .list-walk .ensures .stored ps S m (from-handed-on c ∙ e)
     ∙ take-all room (reverse ps) (omega (arith, length-reverse ps))
 
 -- the points found have distances that are not negative
 listed : (b : tie.After-shared-slice-known) →
     let a = b .before .args in
-    (ps : List ListPoint) (S : Float) (m : ℕ) → listWalk (table (a .weights .now) (a .mu .now)) (a .target .now) (a .radius) (a .budget) ≡ ended ps S m → All (Listed (length (a .weights .now))) ps
+    (ps : List ListPoint) (S : Float) (m : ℕ) → listWalk (table (a .weights .now) (a .mu .now)) (a .target .now) (handedOn (a .radius)) (a .budget) ≡ ended ps S m → All (Listed (length (a .weights .now))) ps
 listed b =
     let a = b .before .args in
-    found-listed (table (a .weights .now) (a .mu .now)) (b .shared-slice-known .given) (known (b .before) .checked) (a .target .now) (a .radius) (a .budget)
+    found-listed (table (a .weights .now) (a .mu .now)) (b .shared-slice-known .given) (known (b .before) .checked) (a .target .now) (handedOn (a .radius)) (a .budget)
 
 -- ---- where all points have a place
 
@@ -76,7 +85,7 @@ abbrev walked : tie.Else1 → tie.After-list-walk
 walked c = c .before .before .before .before .before .before .before
 
 abbrev entry : tie.Else1 → tie.Start
-entry c = walked c .before .before .before .before .before .before .before .before .before .before
+entry c = walked c .before .before .before .before .before .before .before .before .before .before .before
 
 abbrev nodes : tie.Else1 → ℕ
 nodes c = c .before .before .end2 .given .0 .0
@@ -102,10 +111,10 @@ shape c = walked c .list-walk .ensures .points-length ∙ ap (λ (k : ℕ). k * 
 -- what was found
 points-found : (c : tie.Else1) →
     let a = entry c .args in
-    (ps : List ListPoint) × (S : Float) × (listWalk (table (a .weights .now) (a .mu .now)) (a .target .now) (a .radius) (a .budget) ≡ ended ps S (nodes c)) × (length ps ≡ count c)
+    (ps : List ListPoint) × (S : Float) × (listWalk (table (a .weights .now) (a .mu .now)) (a .target .now) (handedOn (a .radius)) (a .budget) ≡ ended ps S (nodes c)) × (length ps ≡ count c)
 points-found c =
     let a = entry c .args in
-    ending-ended (listWalk (table (a .weights .now) (a .mu .now)) (a .target .now) (a .radius) (a .budget)) (nodes c) (count c) (ending (walked c) ∙ c .before .before .end2 .given .1)
+    ending-ended (listWalk (table (a .weights .now) (a .mu .now)) (a .target .now) (handedOn (a .radius)) (a .budget)) (nodes c) (count c) (ending (walked c) ∙ c .before .before .end2 .given .1)
 
 found-stored : (c : tie.Else1) → rows (length (entry c .args .weights .now)) (count c) (measured c) (vectors c) ≡ reverse (points-found c .0)
 found-stored c =
@@ -115,23 +124,23 @@ found-stored c =
 all-listed : (c : tie.Else1) → All (Listed (length (entry c .args .weights .now))) (points-found c .0)
 all-listed c =
     let f = points-found c in
-    listed (walked c .before .before .before .before .before .before .before .before .before) (f .0) (f .1) (nodes c) (f .2)
+    listed (walked c .before .before .before .before .before .before .before .before .before .before) (f .0) (f .1) (nodes c) (f .2)
 
 -- ---- the needs
 
 list-walk-requires : tie.Need-list-walk-requires
 list-walk-requires c κs =
-    let b = c .before .before .before .before .before .before .before .before .before in
+    let b = c .before .before .before .before .before .before .before .before .before .before in
     let p = known b in
     record { shape = p .shape; few = omega (arith, b .pre .measured-length, p .places); points-length = vectors-length b; bounded = p .few }
 
 returns : tie.Need-returns
 returns c =
     let at = c .before .before .before .before .before .before in
-    let b = at .before .before .before .before .before .before .before .before .before .before in
+    let b = at .before .before .before .before .before .before .before .before .before .before .before in
     let a = b .args in
     let t = table (a .weights .now) (a .mu .now) in
-    let w = listWalk t (a .target .now) (a .radius) (a .budget) in
+    let w = listWalk t (a .target .now) (handedOn (a .radius)) (a .budget) in
     let m = c .before .end .given .0 .0 in
     let S = c .before .end .given .0 .1 .0 in
     let e = ending-exhausted w m S (ending at ∙ c .before .end .given .1) in
@@ -141,10 +150,10 @@ returns c =
 returns-2 : tie.Need-returns-2
 returns-2 c =
     let at = c .before .before .before .before .before .before .before in
-    let b = at .before .before .before .before .before .before .before .before .before .before in
+    let b = at .before .before .before .before .before .before .before .before .before .before .before in
     let a = b .args in
     let t = table (a .weights .now) (a .mu .now) in
-    let w = listWalk t (a .target .now) (a .radius) (a .budget) in
+    let w = listWalk t (a .target .now) (handedOn (a .radius)) (a .budget) in
     let places = length (a .distances .now) in
     let given = c .before .before .end2 .given in
     let m = given .0 .0 in
@@ -201,6 +210,7 @@ pub list-into-spec : {M : Type 1} → statement M
 list-into-spec =
     tie.close
     (tie.spec
+    (λ c κs. search needs)
     list-walk-requires
     (λ c. search needs)
     (λ c. search needs)
