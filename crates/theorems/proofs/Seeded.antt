@@ -1,4 +1,4 @@
--- The widened radius is not negative, and with a candidate within the radius the search at it never ends with no best, so number 17 cannot come. The point of `nearest_plane` is such a candidate for its own distance. Assumes nothing.
+-- The widened radius has the sign plus and is the same for both zeros, and with a candidate within the radius the search at it never ends with no best, so number 17 cannot come. The point of `nearest_plane` is such a candidate for its own distance. Assumes nothing.
 use mathlib.Core.Path.{_≡_, refl, sym, ap, _∙_, subst}
 use mathlib.Core.Logic.{_⊎_, inl, inr}
 use Prim.Native.Nat.{ℕ, zero, suc, _+_, _≤_, _<_}
@@ -14,7 +14,7 @@ use lib.Ieee.Fits.{and-i}
 use Rattle.rounding.specs.Integers.{roundAway}
 use Rattle.rounding.specs.Kinds.{Finite, NonNegative}
 use Rattle.rounding.proofs.Interface.{number, float-le-refl, float-le-lt-trans, not-lt→le, le→not-lt, nonneg-not-lt, roundAway-isI64, widened as widenedBy, widening-fits, widening-lt, widening-nonneg, widening-same}
-use Rattle.definitions.specs.Table.{Table, dimension, coordinate, plusZero}
+use Rattle.definitions.specs.Table.{Table, dimension, coordinate}
 use Rattle.definitions.specs.Distance.{distance}
 use Rattle.definitions.specs.Admitted.{allI64, isVector, passes, admitted}
 use Rattle.definitions.specs.Walk.{ended}

@@ -1,4 +1,4 @@
--- What is admitted or opened at a radius is so at every radius that is not smaller. So two radii that are equal as numbers admit and open the same, and a call's own radius admits and opens what the radius handed on does. Assumes nothing.
+-- What is admitted or opened at a radius is so at every radius that is not smaller. So two radii that are equal as numbers admit and open the same. Assumes nothing.
 use mathlib.Core.Path.{_≡_, refl, sym, _∙_, subst}
 use Prim.Native.Nat.{ℕ, suc, _+_, _-_, _≤_}
 use native.Mathlib.Nat.{add-zero}
@@ -8,13 +8,13 @@ use mathlib.Core.List.{List, [], _∷_}
 use lib.Dec.{T, leb, leb→le}
 use lib.ListN.{length}
 use lib.IntN.{ℤ}
-use lib.Ieee.{Float, binary64, sub, le, lt}
+use lib.Ieee.{Float, binary64, le, lt}
 use lib.Ieee.Fits.{and-i, and-l, and-r}
 use Rattle.rounding.specs.Integers.{isI64}
 use Rattle.rounding.specs.Kinds.{Finite, NonNegative}
 use Rattle.rounding.proofs.Interface.{number, float-le-refl, float-le-trans, finite-below, sub-number, sub-mono}
-use Rattle.definitions.specs.Table.{Table, dimension, weight, plusZero}
-use Rattle.definitions.specs.Distance.{center, term, levelTerm, partial}
+use Rattle.definitions.specs.Table.{Table, dimension, plusZero}
+use Rattle.definitions.specs.Distance.{levelTerm}
 use Rattle.definitions.specs.Admitted.{allI64, isVector, isPrefix, firstTest, secondTest, passes, admitted, passesFirst, opened}
 use Rattle.definitions.proofs.Distances.{level-is}
 use Rattle.definitions.proofs.Admissions.{allI64-head, allI64-tail, vector-length, vector-all, prefix-is, firstTest-is, secondTest-is, passes-nil, passes-cons, admitted-is, passesFirst-nil, passesFirst-cons, opened-is}
