@@ -154,7 +154,7 @@ class Examples(Test):
             yield " ".join(map(str, (bits(each.distance), *each.point)))
 
     def test_as_printed(self):
-        for name in "two-levels", "three-ambiguities", "twelve-levels", "budget-runs-out":
+        for name in "two-levels", "three-ambiguities", "one-point", "twelve-levels", "budget-runs-out":
             with open(os.path.join(HERE, "../../examples", f"{name}.out"), encoding="ascii") as file:
                 printed = file.read().split("\n")
             lines = list(self.lines(read_job(name)))

@@ -378,6 +378,15 @@ def nearest_line(weights, mu, target, radius, budget):
     return f"nearest {nodes} " + point_text(d, out)
 
 
+def verdict(count, first, second, radius):
+    """Of the number of points listed, the first two distances and the job's radius."""
+    if count == 0:
+        return "none"
+    if count == 1:
+        return "holds" if radius >= 3.0 * first else "open"
+    return "holds" if second >= 3.0 * first else "fails"
+
+
 def list_lines(weights, mu, target, radius, budget):
     n = len(weights)
     distances, points = [0.0] * JOB_PLACES, [0] * (JOB_PLACES * n)
@@ -388,8 +397,7 @@ def list_lines(weights, mu, target, radius, budget):
     text = f"list {nodes} {count}\n"
     for k in range(count):
         text += point_text(distances[k], points[k * n:k * n + n])
-    holds = count == 1 or distances[1] >= 3.0 * distances[0]
-    return text + f"ratio {'none' if count == 0 else 'holds' if holds else 'fails'}\n"
+    return text + f"ratio {verdict(count, distances[0], distances[1], radius)}\n"
 
 
 def job_text(data):

@@ -54,7 +54,7 @@ from .refusals import (
     TableSize, WeightRange, WidenedRadius)
 from .refusals import refusal as _refusal
 
-__version__ = "0.5.0"
+__version__ = "0.6.0"
 
 LARGEST_DIMENSION = 23
 LARGEST_LIST = 4096

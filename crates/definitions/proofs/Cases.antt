@@ -1,12 +1,12 @@
--- The bench cases of docs/SPECIFICATION.md, A to L, the case "distance", those of `change_reference`, of entries one at a time and of a radius of minus zero, proved together by one evaluation of the definitions. Case I's list is taken with a budget of 6 (docs/DECISIONS.md).
+-- The bench cases of docs/SPECIFICATION.md, A to L, the case "distance", those of `change_reference`, of entries one at a time, of a radius of minus zero and of the ratio, proved together by one evaluation of the definitions. Case I's list is taken with a budget of 6 (docs/DECISIONS.md).
 -- Assumes nothing.
 use mathlib.Core.Path.{_≡_, refl}
-use Prim.Native.Nat.{ℕ, zero, suc, _+_, _-_, _/_, _%_, _^_}
+use Prim.Native.Nat.{ℕ, zero, suc, _+_, _-_, _*_, _/_, _%_, _^_}
 use mathlib.Core.Bool.{true, false}
 use mathlib.Core.List.{List, [], _∷_, _++_, map}
 use lib.ListN.{length, replicate}
 use lib.IntN.{ℤ, pos, negsuc}
-use lib.Ieee.{Float, fin, inf, nan, binary64, toBits}
+use lib.Ieee.{Float, fin, inf, nan, binary64, ofBits, toBits}
 use Rattle.rounding.specs.Integers.{roundAway}
 use Rattle.definitions.specs.Table.{Table, plusZero, minusZero, one, coordLimit, largestDimension}
 use Rattle.definitions.specs.Distance.{partial}
@@ -17,6 +17,7 @@ use Rattle.definitions.specs.Checks.{Verdict, pass, refuse, firstRefusal
 use Rattle.definitions.specs.Entries.{Entry, entryOf, fedAll}
 use Rattle.definitions.specs.Calls.{Answer, found, refused, NearestPoint, ListAnswer, nearest, nearestSeeded, nearestMl, list}
 use Rattle.definitions.specs.Reference.{changeReference, changeOutput}
+use Rattle.definitions.specs.Ratio.{Ratio, holds, fails, «open», none, listRatio}
 use Rattle.definitions.specs.JobText.{text, jobOutput}
 
 -- ---- the cases' numbers
@@ -325,6 +326,84 @@ jobA = sectionOf [] ++ sectionOf [] ++ sectionOf [] ++ sectionOf (0 ∷ []) ++ s
 abbrev printedA : List ℕ
 printedA = text "nearest 0 0000000000000000\nlist 0 1\n0000000000000000\nratio holds\n"
 
+-- ---- B as a job
+abbrev jobB : List ℕ
+jobB = sectionOf (bits (four ∷ [])) ++ sectionOf [] ++ sectionOf (bits targetB) ++ sectionOf (bits (quarter ∷ [])) ++ sectionOf (1 ∷ [])
+
+abbrev printedB : List ℕ
+printedB = text "nearest 1 3FD0000000000000 1\nlist 1 1\n3FD0000000000000 1\nratio open\n"
+
+-- ---- the ratio
+abbrev ratioAt : Table → List Float → List ℤ → Float → Ratio
+ratioAt t target points R = listRatio (list t target places points R 100) R
+
+-- of dimension 1: by weight, target and radius
+abbrev ratioAt1 : Float → Float → Float → Ratio
+ratioAt1 w x R = ratioAt (record { weights = w ∷ []; mu = plusZero ∷ [] }) (x ∷ []) places1 R
+
+-- the double of these bits
+abbrev double : ℕ → Float
+double b = ofBits binary64 b
+
+abbrev largest : Float
+largest = fin false (2 ^ 53 - 1) (pos 971)
+
+-- three levels at 7/16: d1 is above a third of the largest double
+abbrev tableLarge : Table
+tableLarge = record { weights = largest ∷ largest ∷ largest ∷ []; mu = replicate 9 plusZero }
+
+abbrev targetLarge : List Float
+targetLarge = over 7 3 ∷ over 7 3 ∷ over 7 3 ∷ []
+
+abbrev ratioCases : List Ratio
+ratioCases =
+    -- A; B at 1/4, at 3·d1 and at the double below it
+    ratioAt tableA [] [] plusZero
+    ∷ ratioAt tableB targetB places1 quarter
+    ∷ ratioAt tableB targetB places1 (over 3 1)
+    ∷ ratioAt tableB targetB places1 (over (3 * 2 ^ 51 - 1) 52)
+    -- weight 1 and target 7/16: open at 1/4, where [1] at 81/256 is not listed, and fails at 1, where it is
+    ∷ ratioAt1 one (over 7 3) quarter
+    ∷ ratioAt1 one (over 7 3) one
+    -- C; E with one place, which is 18; G
+    ∷ ratioAt tableB targetB places1 (over 1 2)
+    ∷ listRatio (list tableE targetE (one ∷ []) (pos 7 ∷ []) one 100) one
+    ∷ ratioAt tableG targetG places2 two
+    -- d1 is 0: alone at radius 0 and at minus zero, and twice with weight 2^-1074
+    ∷ ratioAt1 one plusZero plusZero
+    ∷ ratioAt1 one plusZero minusZero
+    ∷ ratioAt1 (over 1 1073) half plusZero
+    -- 3·d1 is rounded once: weight 16·d1, d1 3FF0000000000003, at 4008000000000004 and the double below it
+    ∷ ratioAt1 (double 4625196817309499395) quarter (double 4613937818241073156)
+    ∷ ratioAt1 (double 4625196817309499395) quarter (double 4613937818241073155)
+    -- and it is a product: d1 3FF0000000000001, at 4008000000000001, where R/3 is d1 and R/d1 is 3
+    ∷ ratioAt1 (double 4625196817309499393) quarter (double 4613937818241073153)
+    -- 3·d1 overflows: alone at 5·2^1021, and with others at 3·2^1022
+    ∷ ratioAt tableLarge targetLarge (places2 ++ places1) (fin false 5 (pos 1021))
+    ∷ ratioAt tableLarge targetLarge (places2 ++ places1) (fin false 3 (pos 1022))
+    ∷ []
+
+abbrev ratioVerdicts : List Ratio
+ratioVerdicts =
+    holds
+    ∷ «open»
+    ∷ holds
+    ∷ «open»
+    ∷ «open»
+    ∷ fails
+    ∷ none
+    ∷ none
+    ∷ fails
+    ∷ holds
+    ∷ holds
+    ∷ holds
+    ∷ holds
+    ∷ «open»
+    ∷ «open»
+    ∷ «open»
+    ∷ fails
+    ∷ []
+
 pub record Cases : Type 0 where
   pub nearest-cases : nearestCases ≡ nearestAnswers
   pub list-cases : listCases ≡ listAnswers
@@ -337,11 +416,13 @@ pub record Cases : Type 0 where
   pub table-cases : tableCases ≡ tableAnswers
   pub zero-cases : zeroCases ≡ zeroAnswers
   pub zero-lists : zeroLists ≡ zeroListAnswers
+  pub ratio-cases : ratioCases ≡ ratioVerdicts
   pub printed : jobOutput jobG ≡ printedG
+  pub printed-open : jobOutput jobB ≡ printedB
   pub printed-empty : jobOutput jobA ≡ printedA
 
 pub cases : Cases
-unfolding nearest list nearestSeeded nearestMl roundAway changeReference changeOutput fedAll firstRefusal tableChecks partial admitted jobOutput text toBits bytesOf joined
+unfolding nearest list listRatio nearestSeeded nearestMl roundAway changeReference changeOutput fedAll firstRefusal tableChecks partial admitted jobOutput text toBits ofBits bytesOf joined
 cases = record {
   nearest-cases = refl;
   list-cases = refl;
@@ -354,6 +435,8 @@ cases = record {
   table-cases = refl;
   zero-cases = refl;
   zero-lists = refl;
+  ratio-cases = refl;
   printed = refl;
+  printed-open = refl;
   printed-empty = refl;
 }

@@ -15,8 +15,10 @@ pub mod Tables
 pub mod Passed
 pub mod Answers
 pub mod HandedOn
+pub mod Ratios
 pub mod References
 pub mod Decimal
 pub mod Triangles
 pub mod JobSections
 pub mod JobPrefixes
+pub mod JobTexts

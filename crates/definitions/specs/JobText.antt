@@ -7,11 +7,12 @@ use mathlib.Core.List.{List, [], _∷_, _++_}
 use lib.Dec.{leb, ltb}
 use lib.ListN.{length, replicate}
 use lib.IntN.{ℤ, pos, negsuc}
-use lib.Ieee.{Float, binary64, fin, mul, le, toBits}
+use lib.Ieee.{Float, binary64, toBits}
 use Rattle.definitions.specs.Table.{dimension, plusZero}
 use Rattle.definitions.specs.Listing.{ListPoint}
 use Rattle.definitions.specs.Refusals.{jobLayout}
 use Rattle.definitions.specs.Calls.{Answer, found, refused, NearestPoint, ListAnswer, nearest, list}
+use Rattle.definitions.specs.Ratio.{Ratio, holds, fails, «open», none, listRatio}
 use Rattle.definitions.specs.JobLayout.{Job, Layout, job, layout-fault, jobOf}
 
 -- ---- characters and numbers
@@ -92,18 +93,16 @@ unfolding text decimal listedLines refusalLine
 listLines (found a) = text "list " ++ decimal (a .nodes) ++ text " " ++ decimal (length (a .points)) ++ newline ++ listedLines (a .points)
 listLines (refused e) = refusalLine (text "list") (e .number)
 
--- the verdict: none without a point, holds with one; with more it holds if d2 ≥ 3·d1, the product rounded once, and else fails
-unfoldable pub ratio : List ListPoint → String
-unfolding mul le
-ratio [] = "none"
-ratio (p ∷ []) = "holds"
-ratio (p ∷ q ∷ ps) = cond (le (mul binary64 (fin false 3 (pos 0)) (p .distance)) (q .distance)) "holds" "fails"
+-- the line of the ratio
+unfoldable pub ratioWord : Ratio → String
+ratioWord holds = "holds"
+ratioWord fails = "fails"
+ratioWord «open» = "open"
+ratioWord none = "none"
 
--- without a list the verdict is none
-unfoldable pub ratioLine : Answer ListAnswer → List ℕ
-unfolding text ratio
-ratioLine (found a) = text "ratio " ++ text (ratio (a .points)) ++ newline
-ratioLine (refused e) = text "ratio none" ++ newline
+unfoldable pub ratioLine : Ratio → List ℕ
+unfolding text ratioWord
+ratioLine r = text "ratio " ++ text (ratioWord r) ++ newline
 
 -- ---- the job
 
@@ -117,11 +116,14 @@ jobNearest j = nearest (j .table) (j .target) (replicate (dimension (j .table)) 
 abbrev pub jobList : Job → Answer ListAnswer
 jobList j = list (j .table) (j .target) (replicate jobPlaces plusZero) (replicate (dimension (j .table) * jobPlaces) (pos 0)) (j .radius) (j .budget)
 
+abbrev pub jobRatio : Job → Ratio
+jobRatio j = listRatio (jobList j) (j .radius)
+
 -- the lines of nearest, of the list and of the ratio; bytes that are no job give one line alone
 unfoldable pub jobText : Layout → List ℕ
-unfolding nearest list nearestLine listLines ratioLine refusalLine
+unfolding nearest list listRatio nearestLine listLines ratioLine refusalLine
 jobText (layout-fault offset) = refusalLine (text "job") (jobLayout offset .number)
-jobText (job j) = nearestLine (jobNearest j) ++ listLines (jobList j) ++ ratioLine (jobList j)
+jobText (job j) = nearestLine (jobNearest j) ++ listLines (jobList j) ++ ratioLine (jobRatio j)
 
 -- what the program writes for what it reads
 unfoldable pub jobOutput : List ℕ → List ℕ

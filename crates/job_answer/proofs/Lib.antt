@@ -2,6 +2,5 @@
 pub mod Answers
 pub mod Inputs
 pub mod Jobs
-pub mod Ratios
 pub mod Lines
 pub mod Lists

@@ -4,7 +4,6 @@ use mathlib.Core.List.{List, [], _∷_, _++_, map, append-assoc}
 use Prim.Native.Nat.{ℕ, zero, suc, _+_, _*_, _≤_}
 use native.Mathlib.Nat.{suc-mul, zero-mul, add-comm}
 use native.Mathlib.Omega.{arith}
-use Prim.Native.String.{String}
 use lib.ListN.{length, getD, take, drop, length-append, length-drop, length-map}
 use lib.Seq.{take-at, drop-append-add}
 use lib.IntN.{ℤ}
@@ -14,15 +13,16 @@ use Rattle.definitions.specs.Calls.{Answer, found, refused, written, coordinate
 use Rattle.definitions.specs.Calls as C
 use Rattle.definitions.specs.Refusals.{Refusal}
 use Rattle.refusals.specs.Numbers.{numbered}
-use Rattle.definitions.specs.JobText.{text, newline, refusalLine, listLines, ratio, ratioLine}
+use Rattle.definitions.specs.Ratio.{Ratio, ratio, listRatio}
+use Rattle.definitions.specs.JobText.{text, refusalLine, listLines, ratioLine}
 use Rattle.definitions.proofs.ListedOrder.{Listed}
-use Rattle.definitions.proofs.Answers.{found≢refused, refused-same}
+use Rattle.definitions.proofs.Ratios.{ratio-nothing, list-ratio-found, list-ratio-refused}
 use Rattle.lists.specs.All.{All, more}
 use Rattle.definitions.specs.Rows.{row, rows}
 use Rattle.listing.specs.declared.ListAnswer.{ListAnswer}
 use Rattle.listing.specs.declared.ListAnswer.the-variants.{Found, Refused}
 use Rattle.listing.specs.View.{Counts, countsOf, listAnswer, ListAnswered}
-use Rattle.job_answer.specs.Texts.{listText, pointsOf, ratioBy, ratioText}
+use Rattle.job_answer.specs.Texts.{listText, pointsOf}
 
 -- ---- points that lie one after another
 module _ (n : ℕ) (p : ListPoint) (ds : List Float) (zs : List ℤ) (own : length (p .point) ≡ n) where
@@ -69,20 +69,16 @@ module _ (ds : List Float) (zs : List ℤ) where
   lines n (Refused e) (found a) same all = let z : _≡_ {A = ℕ} 0 1 = cc in absurd (omega arith)
   lines n (Refused e) (refused d) same all = let equal : numbered e ≡ d = cc in ap (λ (r : Refusal). refusalLine (text "list") (r .number)) equal
 
-  ratio-found : (ps : List ListPoint) → ratioBy (length ps) (distancesOf ps) ≡ ratio ps
-  unfolding ratio
-  ratio-found [] = refl
-  ratio-found (p ∷ []) = refl
-  ratio-found (p ∷ q ∷ ps) = refl
-
-  ratio-line : (answer : ListAnswer) (L : Answer C.ListAnswer) → listAnswer answer ≡ countsOf L → ratioText (pointsOf answer) (listDistances L ds) ≡ ratioLine L
-  unfolding text ratioLine listDistances
-  ratio-line (Found f) (found a) same =
+  -- the verdict on the distances that the call left is that on the list
+  verdict-said : (R : Float) (answer : ListAnswer) (L : Answer C.ListAnswer) → listAnswer answer ≡ countsOf L → ratio (take (pointsOf answer) (listDistances L ds)) R ≡ listRatio L R
+  unfolding listDistances
+  verdict-said R (Found f) (found a) same =
       let count : f .points ≡ length (a .points) = ap (λ (x : Answer Counts). countsIn x .points) same in
-      ap (λ (k : ℕ). ratioText k (distancesOf (a .points))) count ∙ ap (λ (s : String). text "ratio " ++ text s ++ newline) (ratio-found (a .points))
-  ratio-line (Found f) (refused e) same = let z : _≡_ {A = ℕ} 0 1 = cc in absurd (omega arith)
-  ratio-line (Refused e) (found a) same = let z : _≡_ {A = ℕ} 0 1 = cc in absurd (omega arith)
-  ratio-line (Refused e) (refused d) same = refl
+      let new = map (λ (p : ListPoint). p .distance) (a .points) in
+      ap (λ (xs : List Float). ratio xs R) (take-at new (drop (length new) ds) (f .points) (length-map (a .points) (λ (p : ListPoint). p .distance) ∙ sym count)) ∙ sym (list-ratio-found R a)
+  verdict-said R (Found f) (refused e) same = let z : _≡_ {A = ℕ} 0 1 = cc in absurd (omega arith)
+  verdict-said R (Refused e) (found a) same = let z : _≡_ {A = ℕ} 0 1 = cc in absurd (omega arith)
+  verdict-said R (Refused e) (refused d) same = ratio-nothing R ∙ sym (list-ratio-refused R d)
 
   few : (answer : ListAnswer) (L : Answer C.ListAnswer) → listAnswer answer ≡ countsOf L → length (listDistances L ds) ≡ length ds → pointsOf answer ≤ length ds
   unfolding listDistances
@@ -102,8 +98,10 @@ module _ {L : Answer C.ListAnswer} {ds : List Float} {zs : List ℤ} {answer : L
   points-few kept = few ds zs answer L (a .tells) (sym (ap length (a .writes-distances)) ∙ kept)
 
   -- the lines of the list and the ratio's, the slice lent on holding what the call left
-  pub part-text : {n k : ℕ} {zs″ : List ℤ} → ((b : C.ListAnswer) → L ≡ found b → All (Listed n) (b .points)) → zs″ ≡ zs′ → k ≡ pointsOf answer → listText answer n ds′ zs″ ++ ratioText k ds′ ≡ listLines L ++ ratioLine L
-  part-text {n} {k} all same-points count =
+  pub part-text : (R : Float) {n k : ℕ} {zs″ : List ℤ} {said : Ratio} → ((b : C.ListAnswer) → L ≡ found b → All (Listed n) (b .points)) → zs″ ≡ zs′ → k ≡ pointsOf answer → said ≡ ratio (take k ds′) R → listText answer n ds′ zs″ ++ ratioLine said ≡ listLines L ++ ratioLine (listRatio L R)
+  part-text R {n} {k} {zs″} {said} all same-points count verdict =
       let l = lines ds zs n answer L (a .tells) all in
-      let r = ratio-line ds zs answer L (a .tells) in
+      let r = verdict-said ds zs R answer L (a .tells) in
+      let d = a .writes-distances in
+      let p = a .writes-points in
       cc

@@ -1,13 +1,10 @@
 -- The texts of the code's answers. Definitions only.
-use Prim.Native.Nat.{ℕ, zero, suc}
-use Prim.Native.String.{String}
-use mathlib.Core.Bool.{false, cond}
+use Prim.Native.Nat.{ℕ}
 use mathlib.Core.List.{List, _++_}
-use lib.ListN.{getD}
-use lib.IntN.{ℤ, pos}
-use lib.Ieee.{Float, binary64, fin, mul, le, nan}
+use lib.IntN.{ℤ}
+use lib.Ieee.{Float}
 use Rattle.definitions.specs.JobLayout.{Job}
-use Rattle.definitions.specs.JobText.{text, newline, decimal, hexadecimal, pointText, listedLines, refusalLine, listLines, ratioLine, jobList}
+use Rattle.definitions.specs.JobText.{text, newline, decimal, hexadecimal, pointText, listedLines, refusalLine, listLines, ratioLine, jobList, jobRatio}
 use Rattle.definitions.specs.Rows.{rows}
 use Rattle.refusals.specs.Numbers.{numbered}
 use Rattle.listing.specs.declared.ListAnswer.{ListAnswer}
@@ -28,16 +25,6 @@ abbrev pub pointsOf : ListAnswer → ℕ
 pointsOf (Found f) = f .points
 pointsOf (Refused e) = 0
 
--- the ratio by the number of points and the first two distances
-abbrev pub ratioBy : ℕ → List Float → String
-ratioBy zero distances = "none"
-ratioBy (suc zero) distances = "holds"
-ratioBy (suc (suc k)) distances = cond (le (mul binary64 (fin false 3 (pos 0)) (getD distances 0 nan)) (getD distances 1 nan)) "holds" "fails"
-
--- its line
-abbrev pub ratioText : ℕ → List Float → List ℕ
-ratioText count distances = text "ratio " ++ text (ratioBy count distances) ++ newline
-
 -- the lines of a job's list and its ratio
 abbrev pub listPart : Job → List ℕ
-listPart j = listLines (jobList j) ++ ratioLine (jobList j)
+listPart j = listLines (jobList j) ++ ratioLine (jobRatio j)

@@ -1,16 +1,17 @@
 // A job's bytes to the text that the job program prints.
 ghost use mathlib.Core.Path.{_≡_};
-ghost use Prim.Native.Nat.{_*_};
+ghost use Prim.Native.Nat.{_+_, _*_, _≤_};
 ghost use lib.ListN.{length, take};
 ghost use Rattle.definitions.specs.Table.{largestDimension};
 ghost use Rattle.definitions.specs.Lent.{atEntry, atExit};
 ghost use Rattle.definitions.specs.Rows.{rows};
 ghost use Rattle.definitions.specs.JobText as J;
 ghost use Rattle.enumerate.specs.View.{nearestAnswer};
+ghost use Rattle.ratio.specs.View.{verdictOf};
 ghost use Rattle.reading.specs.View.{jobRead, layoutRead};
 ghost use Rattle.writing.specs.Written.{Written};
 ghost use Rattle.job_answer.specs.Sizes.{nearestSize, listedSize, listSize, ratioSize, listPartSize, outputSize};
-ghost use Rattle.job_answer.specs.Texts.{listedLine, listText, pointsOf, ratioText, listPart};
+ghost use Rattle.job_answer.specs.Texts.{listedLine, listText, pointsOf, listPart};
 ghost use Rattle.job_answer.specs.Room.{Room, LinesRoom, JobRoom};
 ghost use Rattle.job_answer.specs.Answer.{JobAnswered, BufferRead, InputAnswered};
 use definitions::LARGEST_DIMENSION;
@@ -18,6 +19,8 @@ use enumerate::NearestAnswer;
 use enumerate::nearest;
 use listing::ListAnswer;
 use listing::list;
+use ratio::Ratio;
+use ratio::verdict;
 use reading::Job;
 use reading::read;
 use refusals::numbers;
@@ -151,21 +154,17 @@ fn points_of(answer: ListAnswer) -> usize
     }
 }
 
-// Writes the ratio's line, out of the number of points and the first two distances.
-fn ratio_line(out: &mut [u8], at: usize, count: usize, distances: &[f64]) -> usize
-    requires { ⌜ Room (now out) at ratioSize count (length (now distances)) ⌝ }
-    ensures { λ r. ⌜ Written (atEntry out) at (ratioText count (atEntry distances)) ratioSize r (atExit out) ⌝ }
+// Writes the ratio's line.
+fn ratio_line(out: &mut [u8], at: usize, ratio: Ratio) -> usize
+    requires { ⌜ at + ratioSize ≤ length (now out) ⌝ }
+    ensures { λ r. ⌜ Written (atEntry out) at (J.ratioLine (verdictOf ratio)) ratioSize r (atExit out) ⌝ }
 {
-    if count == 0 {
-        return put(out, at, b"ratio none\n");
+    match ratio {
+        Ratio::Holds => put(out, at, b"ratio holds\n"),
+        Ratio::Fails => put(out, at, b"ratio fails\n"),
+        Ratio::Open => put(out, at, b"ratio open\n"),
+        Ratio::None => put(out, at, b"ratio none\n"),
     }
-    if count == 1 {
-        return put(out, at, b"ratio holds\n");
-    }
-    if 3.0 * distances[0] <= distances[1] {
-        return put(out, at, b"ratio holds\n");
-    }
-    put(out, at, b"ratio fails\n")
 }
 
 // Writes the nearest line of a job.
@@ -213,7 +212,8 @@ fn list_part(out: &mut [u8], at: usize, job: Job) -> usize
         job.budget,
     );
     let after_list = list_lines(out, at, answer, n, &distances, &points[..places]);
-    ratio_line(out, after_list, points_of(answer), &distances)
+    let ratio = verdict(&distances, points_of(answer), job.radius);
+    ratio_line(out, after_list, ratio)
 }
 
 // Writes the text of a job that was read.

@@ -2,7 +2,7 @@
 use mathlib.Core.Path.{_≡_, refl}
 use mathlib.Core.Bool.{false}
 use lib.IntN.{pos, negsuc}
-use lib.Ieee.{fin, binary64, ofBits}
+use lib.Ieee.{fin, binary64, ofBits, ofInt}
 
 -- 0.0
 pub zero-is : ofBits binary64 0 ≡ fin false 0 (pos 0)
@@ -28,3 +28,8 @@ epsilon-is = refl
 pub three-is : ofBits binary64 4613937818241073152 ≡ fin false 3 (pos 0)
 unfolding ofBits
 three-is = refl
+
+-- the whole number 3 as a double
+pub three-whole : fin false 3 (pos 0) ≡ ofInt binary64 (pos 3)
+unfolding ofInt
+three-whole = refl

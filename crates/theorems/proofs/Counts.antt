@@ -50,6 +50,12 @@ times-other z y ys n = ap (λ (b : Bool). tally b + times z ys) (to-false (eqZ z
 pub count-other : (x y : List ℤ) (ys : List (List ℤ)) → (x ≡ y → ⊥) → count x (y ∷ ys) ≡ count x ys
 count-other x y ys n = ap (λ (b : Bool). tally b + count x ys) (to-false (sameVector x y) (λ h. n (sameVector→eq x y h))) ∙ zero-add (count x ys)
 
+pub count-same : (x y : List ℤ) (ys : List (List ℤ)) → x ≡ y → count x (y ∷ ys) ≡ suc (count x ys)
+count-same x y ys e = ap (λ (k : ℕ). k + count x ys) (tally-true (sameVector x y) (subst (λ (z : List ℤ). T (sameVector x z)) e (sameVector-refl x))) ∙ one (count x ys)
+  where
+    one : (n : ℕ) → 1 + n ≡ suc n
+    one n = omega arith
+
 pub count-head : (y : List ℤ) (ys : List (List ℤ)) → 0 < count y (y ∷ ys)
 count-head y ys = subst (λ (k : ℕ). 0 < k + count y ys) (sym (tally-true (sameVector y y) (sameVector-refl y))) (omega arith)
 

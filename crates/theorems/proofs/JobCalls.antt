@@ -1,4 +1,4 @@
--- Every job that bytes are read as has what its two searches promise. Assumes nothing.
+-- Every job that bytes are read as has what its two searches and its ratio promise. Assumes nothing.
 use mathlib.Core.Path.{_≡_, _∙_}
 use mathlib.Core.Logic.{inl}
 use mathlib.Core.List.{List}
@@ -16,6 +16,7 @@ use Rattle.theorems.specs.Promises.{NearestPromises}
 use Rattle.theorems.specs.JobCalls.{jobOut, jobDistances, jobPoints, JobPromises}
 use Rattle.theorems.proofs.FirstRefusal.{none-passes}
 use Rattle.theorems.proofs.Promises.{nearest-promises, list-promises}
+use Rattle.theorems.proofs.Ratios.{list-ratio}
 use Rattle.theorems.proofs.JobDoubles.{job-doubles}
 
 pub job-promises : (input : List ℕ) (j : Job) → jobOf input ≡ job j → JobPromises j
@@ -23,6 +24,7 @@ job-promises input j read =
     record {
       nearest = promises;
       list = list-promises (j .table) (j .target) (jobDistances j) (jobPoints j) (j .radius) (j .budget) (doubles .0) (doubles .1);
+      ratio = list-ratio (j .table) (j .target) (jobDistances j) (jobPoints j) (j .radius) (j .budget) (doubles .0) (doubles .1);
       same-distance = λ a l q e. promises .list-first (small a q) a q (jobDistances j) (jobPoints j) (j .budget) l e;
     }
   where

@@ -29,6 +29,7 @@ pub mod Seeded
 pub mod Listing
 pub mod Orders
 pub mod Sorting
+pub mod Others
 pub mod FirstListed
 -- ---- the checks
 pub mod FirstFaults
@@ -44,6 +45,7 @@ pub mod RefusedCalls
 pub mod SearchCalls
 pub mod ListCall
 pub mod Promises
+pub mod Ratios
 pub mod References
 -- ---- entries that are not read
 pub mod SameDistances
@@ -58,3 +60,4 @@ pub mod EncodedRows
 pub mod EncodedJobs
 pub mod JobDoubles
 pub mod JobCalls
+pub mod JobTexts

@@ -31,6 +31,7 @@ use Rattle.theorems.specs.Answers.{Listed, SameAdmitted, Demand1}
 use Rattle.theorems.specs.Promises.{nearestCallChecks, NearestPromises, seededCallChecks, SeededPromises, mlCallChecks, MlPromises, listCallChecks, ListPromises, RoundPromises, planeCallChecks, PlanePromises}
 use Rattle.theorems.proofs.Limits.{Limits}
 use Rattle.theorems.proofs.WiderRadius.{same-admitted}
+use Rattle.theorems.proofs.Others.{Radius, OwnList, listed-same, bounds-at}
 use Rattle.theorems.proofs.Checked.{held, failed, limits-of-checks}
 use Rattle.theorems.proofs.Seeded.{widened-double, widened-same, widened-nonneg, candidate-below, seeded-finds, nearestPlane-vector, mlRadius-finite, mlRadius-nonneg, mlRadius-within}
 use Rattle.theorems.proofs.FirstRefusal.{decision, first-least, numbers-below, none-passes}
@@ -48,11 +49,16 @@ limits-of-search t target out d p = limits-of-checks largestDimension t target (
 ready-at : (t : Table) (target : List Float) → Limits t target → (R : Float) → T (fits binary64 R) → radiusCheck R ≡ pass → Ready t target (handedOn R)
 ready-at t target limits R d q = ready-from limits (handed-on-finite R d q) (handed-on-nonneg R d q)
 
--- a radius that passed and the one handed on admit and open the same
+-- a radius that passed, as the call was given it
+own-radius : (R : Float) → T (fits binary64 R) → radiusCheck R ≡ pass → Radius R
+own-radius R d q = record { finite = own-finite R d q; plus = failed (lt R plusZero) (radius-passed R q .1) }
+
+-- it admits and opens what the one handed on does
 own-at : (t : Table) (target : List Float) → Limits t target → (R : Float) → T (fits binary64 R) → radiusCheck R ≡ pass → SameAdmitted t target R (handedOn R)
 own-at t target limits R d q =
     let r = ready-at t target limits R d q in
-    same-admitted t target limits R (handedOn R) (own-finite R d q) (failed (lt R plusZero) (radius-passed R q .1)) (r .finite) (r .plus) (handed-on-above R d q) (handed-on-below R d q)
+    let own = own-radius R d q in
+    same-admitted t target limits R (handedOn R) (own .finite) (own .plus) (r .finite) (r .plus) (handed-on-above R d q) (handed-on-below R d q)
 
 -- ---- list
 module _ (t : Table) (target distances : List Float) (points : List ℤ) (R : Float) (budget : ℕ) (doubles : T (ofDoubles t target)) (double : T (fits binary64 R)) where
@@ -82,6 +88,14 @@ module _ (t : Table) (target distances : List Float) (points : List ℤ) (R : Fl
   listed-ordered : (a : ListAnswer) → answer ≡ found a → Listed t target (handedOn R) (a .points) (a .nodes) × StrictlyOrdered (a .points)
   listed-ordered a q = let f = demand .answers .1 (inl (a, q)) in list-found (list-ready f) budget (length distances) (by-walk f) a q
 
+  -- a list found, at the call's own radius
+  pub own-list : (a : ListAnswer) → answer ≡ found a → OwnList t target R a
+  own-list a q =
+      let f = demand .answers .1 (inl (a, q)) in
+      let (limits, passed) = list-pass f in
+      let (listed, ordered) = listed-ordered a q in
+      record { limits = limits; radius = own-radius R double passed; listed = listed-same (own-at t target limits R double passed) listed; ordered = ordered }
+
   pub list-promises : ListPromises t target distances points R budget answer (listDistances answer distances) (listPoints answer points)
   list-promises =
       record {
@@ -94,6 +108,7 @@ module _ (t : Table) (target distances : List Float) (points : List ℤ) (R : Fl
         order = λ small a q. listed-ordered a q .1;
         slices = λ a q. (ap (λ (x : Answer ListAnswer). listDistances x distances) q ∙ distances-found a distances, ap (λ (x : Answer ListAnswer). listPoints x points) q ∙ points-found a points);
         numbers = λ small f. list-numbers (list-ready f) budget (length distances) (by-walk f);
+        radius-bounds = λ small f. let (limits, passed) = list-pass f in bounds-at limits (own-radius R double passed);
         own-radius = λ f. let (limits, passed) = list-pass f in own-at t target limits R double passed;
         at-minus-zero = λ z.
             let same : answer ≡ list t target distances points plusZero budget =

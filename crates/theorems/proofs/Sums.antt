@@ -1,12 +1,12 @@
 -- Within the limits a term and a partial sum are no NaN and not negative, and a partial sum is no smaller than the one above it.
--- So a vector whose computed distance is strictly below R is admitted at R, and an admitted one has a distance, at most R. Assumes nothing.
+-- So a vector whose computed distance is strictly below R is admitted at R, one that is not admitted has none below R, and an admitted one has a distance, at most R. Assumes nothing.
 use mathlib.Core.Path.{_≡_, sym, _∙_, subst}
 use Prim.Native.Nat.{ℕ, suc, _+_, _≤_, _<_}
 use native.Mathlib.Nat.{lt-of-le-of-lt, add-zero}
 use native.Mathlib.Omega.{arith}
 use mathlib.Core.Bool.{not, _&&_}
 use mathlib.Core.List.{List, [], _∷_}
-use lib.Dec.{T}
+use lib.Dec.{T, T-not, not-T}
 use lib.ListN.{length}
 use lib.IntN.{ℤ}
 use lib.Ieee.{Float, binary64, sub, le, lt}
@@ -75,6 +75,12 @@ module _ (t : Table) (target : List Float) (limits : Limits t target) where
         subst T (sym (admitted-is t target R zs))
         (and-i (isVector t zs) (passes t target R zs) v
         (passes-below zs 0 (add-zero (length zs) ∙ vector-length t zs v) (vector-all t zs v) (lt→ord binary64 (distance-nonneg zs v .num) (number finite) l)))
+
+    -- so one that is not admitted has a distance of at least R
+    pub not-admitted-beyond : (zs : List ℤ) → T (isVector t zs) → T (not (admitted t target R zs)) → T (le R (distance t target zs))
+    not-admitted-beyond zs v n =
+        not-lt→le binary64 (distance-nonneg zs v .num) (number finite)
+        (not-T (lt (distance t target zs) R) (λ l. T-not (admitted t target R zs) n (below-admitted zs v l)))
 
     -- ---- admitted is at most R
     module _ (plus : T (not (lt R plusZero))) where

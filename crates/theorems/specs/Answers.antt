@@ -7,9 +7,9 @@ use Prim.Native.Nat.{ℕ, _≤_, _<_}
 use lib.Dec.{T}
 use lib.ListN.{length}
 use lib.IntN.{ℤ}
-use lib.Ieee.{Float, lt}
+use lib.Ieee.{Float, le, lt}
 use Rattle.definitions.specs.Table.{Table, minusZero}
-use Rattle.definitions.specs.Distance.{distance}
+use Rattle.definitions.specs.Distance.{distance, hasDistance}
 use Rattle.definitions.specs.Admitted.{isVector, admitted, opened}
 use Rattle.definitions.specs.Walk.{Walked, ended, exhausted}
 use Rattle.definitions.specs.Nearest.{Best, no-best, best}
@@ -53,6 +53,11 @@ pub record EndsAsListWalk (w : Walked (List ListPoint)) (distances : List Float)
 pub record SameAdmitted (t : Table) (target : List Float) (R S : Float) : Type 0 where
   pub admits : (z : List ℤ) → admitted t target R z ≡ admitted t target S z
   pub opens : (zs : List ℤ) → opened t target R zs ≡ opened t target S zs
+
+-- what a radius says of distances: an admitted vector has a computed distance, of at most R; one that is not admitted has none below R
+pub record RadiusBounds (t : Table) (target : List Float) (R : Float) : Type 0 where
+  pub within : (y : List ℤ) → T (admitted t target R y) → T (hasDistance t target y) × T (le (distance t target y) R)
+  pub beyond : (y : List ℤ) → T (isVector t y) → T (not (admitted t target R y)) → T (le R (distance t target y))
 
 -- minus zero is not among the values of a refusal
 abbrev pub NoMinusZero : Refusal → Type 0

@@ -1,4 +1,4 @@
--- What is promised of the two searches of a job: what the calls promise, in the slices that the job lends. Definitions only.
+-- What is promised of the two searches of a job and of its ratio: what the calls promise, in the slices that the job lends. Definitions only.
 use mathlib.Core.Path.{_≡_}
 use mathlib.Core.List.{List}
 use Prim.Native.Nat.{_*_}
@@ -11,6 +11,7 @@ use Rattle.definitions.specs.JobLayout.{Job}
 use Rattle.definitions.specs.JobText.{jobPlaces, jobNearest, jobList}
 use Rattle.theorems.specs.Ordered.{BeginsAt}
 use Rattle.theorems.specs.Promises.{NearestPromises, ListPromises}
+use Rattle.theorems.specs.Ratios.{RatioPromises}
 
 module _ (j : Job) where
   abbrev pub jobOut : List ℤ
@@ -25,5 +26,7 @@ module _ (j : Job) where
   pub record JobPromises : Type 0 where
     pub nearest : NearestPromises (j .table) (j .target) jobOut (j .radius) (j .budget) (jobNearest j) (nearestOutput (jobNearest j) jobOut)
     pub list : ListPromises (j .table) (j .target) jobDistances jobPoints (j .radius) (j .budget) (jobList j) (listDistances (jobList j) jobDistances) (listPoints (jobList j) jobPoints)
+    -- the verdict, at the job's own radius
+    pub ratio : RatioPromises (j .table) (j .target) (j .radius) (jobList j)
     -- where both succeed, the list begins at the distance of the nearest line
     pub same-distance : (a : NearestPoint) (l : ListAnswer) → jobNearest j ≡ found a → jobList j ≡ found l → BeginsAt (a .distance) (l .points)

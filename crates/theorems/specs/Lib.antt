@@ -8,8 +8,10 @@ pub mod Ordered
 pub mod Refusals
 pub mod Answers
 pub mod Promises
+pub mod Ratios
 pub mod Reference
 pub mod Entries
 pub mod SameRead
 pub mod EncodedJob
 pub mod JobCalls
+pub mod JobTexts

@@ -21,7 +21,7 @@ use Rattle.definitions.specs.Calls.{Answer, found, refused, NearestPoint, check
 use Rattle.theorems.specs.Counting.{NumberOf}
 use Rattle.theorems.specs.Ordered.{BeginsAt, StrictlyOrdered}
 use Rattle.theorems.specs.Refusals.{NoneFits, FirstIsLeast, NumberIndex, FirstIndices}
-use Rattle.theorems.specs.Answers.{Nearest, Listed, EndsAsWalk, EndsAsListWalk, SameAdmitted, NoMinusZero, Demand1, VerdictDemand1}
+use Rattle.theorems.specs.Answers.{Nearest, Listed, EndsAsWalk, EndsAsListWalk, SameAdmitted, RadiusBounds, NoMinusZero, Demand1, VerdictDemand1}
 
 -- ---- nearest, nearest_seeded, nearest_ml: R is the radius that the walk starts from
 
@@ -153,6 +153,8 @@ module _ (t : Table) (target distances : List Float) (points : List ℤ) (radius
     pub slices : (a : ListAnswer) → answer ≡ found a →
         (distances′ ≡ written (map (λ (p : ListPoint). p .distance) (a .points)) distances) × (points′ ≡ written (coordinates (a .points)) points)
     pub numbers : dimension t ≤ 23 → NoneFits listCallChecks → ListNumbers t target (handedOn radius) budget (length distances) answer
+    -- where no check fits: an admitted vector has a distance of at most the radius, and one that is not admitted, so not listed, has none below it
+    pub radius-bounds : dimension t ≤ 23 → NoneFits listCallChecks → RadiusBounds t target radius
     -- where no check fits, the call's own radius admits and opens what the radius handed on does
     pub own-radius : NoneFits listCallChecks → SameAdmitted t target radius (handedOn radius)
     -- at minus zero the answer and what both slices hold are those at plus zero

@@ -135,6 +135,17 @@ fn nearest_line(job: &Job) -> String {
     }
 }
 
+/// Of the number of points listed, the first two distances and the job's radius.
+fn verdict(points: &[(f64, Vec<i64>)], radius: f64) -> &'static str {
+    match points {
+        [] => "none",
+        [(first, _)] if radius >= 3.0 * first => "holds",
+        [_] => "open",
+        [(first, _), (second, _), ..] if *second >= 3.0 * first => "holds",
+        _ => "fails",
+    }
+}
+
 /// The list's lines and the ratio's.
 fn list_lines(job: &Job) -> String {
     let (points, nodes) = match answer(job, |table, budget| oracle::list(table, &job.target, job.radius, budget)) {
@@ -142,17 +153,7 @@ fn list_lines(job: &Job) -> String {
         Err(number) => return refusal_line("list", number) + "ratio none\n",
         Ok(listed) => listed,
     };
-    let ratio = match &points[..] {
-        [] => "none",
-        [_] => "holds",
-        [(first, _), (second, _), ..] => {
-            if *second >= 3.0 * *first {
-                "holds"
-            } else {
-                "fails"
-            }
-        }
-    };
+    let ratio = verdict(&points, job.radius);
     let lines: String = points.iter().map(|(distance, z)| format!("{}{}\n", bits(*distance), coordinates(z))).collect();
     format!("list {nodes} {}\n{lines}ratio {ratio}\n", points.len())
 }

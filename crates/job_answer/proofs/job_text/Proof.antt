@@ -5,7 +5,7 @@ use mathlib.Core.List.{append-assoc}
 use native.Mathlib.Omega.{arith}
 use borrow.Author.Tests.{not-true, not-false}
 use Rattle.definitions.specs.JobLayout.{job, layout-fault}
-use Rattle.definitions.specs.JobText.{text, jobText, nearestLine, listLines, ratioLine, jobNearest, jobList}
+use Rattle.definitions.specs.JobText.{text, jobText, nearestLine, listLines, ratioLine, jobNearest, jobList, jobRatio}
 use Rattle.reading.specs.View.{jobRead}
 use Rattle.writing.proofs.Texts.{written-then, written-as}
 use borrow.Author.Needs.{needs}
@@ -28,7 +28,7 @@ returns-2 c =
     let nearest = list .before .before .before .before in
     let whole = nearest .before .before in
     let j = whole .before .before .before .args .job in
-    let parts = sym (append-assoc (nearestLine (jobNearest (jobRead j))) (listLines (jobList (jobRead j))) (ratioLine (jobList (jobRead j)))) in
+    let parts = sym (append-assoc (nearestLine (jobNearest (jobRead j))) (listLines (jobList (jobRead j))) (ratioLine (jobRatio (jobRead j)))) in
     let same = parts ∙ sym (ap (λ (b : Bool). jobText (cond b (job (jobRead j)) (layout-fault (j .fault)))) (not-false (j .whole) (whole .if1 .left))) in
     written-as (written-then (nearest .nearest-part .ensures) (list .list-part .ensures)) same (omega arith)
 

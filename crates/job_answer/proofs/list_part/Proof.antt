@@ -7,6 +7,7 @@ use native.Mathlib.Omega.{arith}
 use lib.Seq.{length-take-le}
 use lib.IntN.{pos}
 use Rattle.definitions.specs.Calls as C
+use Rattle.definitions.specs.Ratio.{listRatio}
 use Rattle.definitions.specs.JobText.{jobPlaces, listLines, ratioLine}
 use Rattle.lists.proofs.Repeats.{repeat-prefix}
 use Rattle.reading.proofs.Arrays.{square-fits}
@@ -51,25 +52,34 @@ list-lines-requires c κs =
     let all = slice-aggregate-list-lines-2 c in
     record { room = omega (arith, s .pre .room); small = s .pre .shape .small; few-distances = omega arith; few-points = omega arith }
 
+verdict-requires : tie.Need-verdict-requires
+verdict-requires c κs =
+    let call = c .before .before .before .before .before .before .before .before .before .before in
+    let most = few call in
+    omega (arith, c .points-of .ensures, most)
+
 ratio-line-requires : tie.Need-ratio-line-requires
 ratio-line-requires c κs =
-    let lines = c .before .before .before .before .before in
+    let lines = c .before .before .before .before .before .before in
     let call = lines .before .before .before .before .before .before in
     let s = call .before .before .before .before .before .before .before .before .before .before in
     let most = few call in
-    record { room = omega (arith, s .pre .room, lines .list-lines .ensures .within); few = omega (arith, c .before .points-of .ensures) }
+    omega (arith, s .pre .room, lines .list-lines .ensures .within, most)
 
 returns : tie.Need-returns
 returns c =
     let ratio = c .before .before in
-    let count = ratio .before .before in
+    let verdict = ratio .before .before in
+    let count = verdict .before in
     let lines = count .before .before .before .before in
     let call = lines .before .before .before .before .before .before in
     let s = call .before .before .before .before .before .before .before .before .before .before in
     let shape = s .pre .shape in
-    let array = points-held shape (call .list .ensures) (omega (arith, slice-aggregate-list-5 (call .before))) in
-    let text = part-text (call .list .ensures) (list-coordinates shape _ _) (array .first) (count .points-of .ensures) in
-    let same = text ∙ ap (λ (l : C.Answer C.ListAnswer). listLines l ++ ratioLine l) (list-lent shape) in
+    let radius = s .args .job .radius in
+    let lent = lines .before .before .before .before in
+    let array = points-held shape (call .list .ensures) (omega (arith, slice-aggregate-list-5 (call .before), lent .points2 .given)) in
+    let text = part-text (call .list .ensures) radius (list-coordinates shape _ _) (array .first) (count .points-of .ensures) (verdict .verdict .ensures) in
+    let same = text ∙ ap (λ (l : C.Answer C.ListAnswer). listLines l ++ ratioLine (listRatio l radius)) (list-lent shape) in
     let most = few call in
     written-as (written-then (lines .list-lines .ensures) (ratio .ratio-line .ensures)) same (omega arith)
 
@@ -93,8 +103,9 @@ list-part-spec =
     array-share-prefix-points
     slice-aggregate-list-lines-2
     list-lines-requires
-    (λ c κs. search needs)
     (λ c. search needs)
+    (λ c κs. search needs)
+    verdict-requires
     ratio-line-requires
     (λ c. search needs)
     returns)
