@@ -1,5 +1,5 @@
 -- What each verdict on a list says of the vectors: R is the call's radius, d1 the distance of the list's first point, and 3·d1 is rounded once. Definitions only.
--- The distance of a vector whose sum overflows is infinite, so what is said of every other vector is said of those with a computed distance too.
+-- A vector without a computed distance has an infinite one here, so what is said of every other vector needs no premise that it has one.
 use mathlib.Core.Path.{_≡_}
 use mathlib.Core.Bool.{not}
 use mathlib.Core.List.{List, _∷_}
