@@ -50,7 +50,7 @@ by-byte «open» = refl
 by-byte none = refl
 
 -- ---- the text
-pub text-of-job : (j : Job) → jobText (job j) ≡ nearestLine (jobNearest j) ++ listLines (jobList j) ++ ratioLine (jobRatio j)
+text-of-job : (j : Job) → jobText (job j) ≡ nearestLine (jobNearest j) ++ listLines (jobList j) ++ ratioLine (jobRatio j)
 unfolding jobText
 text-of-job j = refl
 

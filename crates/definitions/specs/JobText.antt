@@ -93,7 +93,7 @@ unfolding text decimal listedLines refusalLine
 listLines (found a) = text "list " ++ decimal (a .nodes) ++ text " " ++ decimal (length (a .points)) ++ newline ++ listedLines (a .points)
 listLines (refused e) = refusalLine (text "list") (e .number)
 
--- the line of the ratio
+-- the verdict's word, and the line of the ratio
 unfoldable pub ratioWord : Ratio → String
 ratioWord holds = "holds"
 ratioWord fails = "fails"

@@ -9,7 +9,7 @@ use lib.Seq.{take-at, drop-append-add}
 use lib.IntN.{ℤ}
 use lib.Ieee.{Float, nan}
 use Rattle.definitions.specs.Listing.{ListPoint}
-use Rattle.definitions.specs.Calls.{Answer, found, refused, written, coordinates, listDistances, listPoints}
+use Rattle.definitions.specs.Calls.{Answer, found, refused, coordinates, listDistances, listPoints}
 use Rattle.definitions.specs.Calls as C
 use Rattle.definitions.specs.Refusals.{Refusal}
 use Rattle.refusals.specs.Numbers.{numbered}
@@ -54,9 +54,6 @@ countsIn (found c) = c
 countsIn (refused e) = record { nodes = 0; points = 0 }
 
 module _ (ds : List Float) (zs : List ℤ) where
-  abbrev distancesOf : List ListPoint → List Float
-  distancesOf ps = written (map (λ (p : ListPoint). p .distance) ps) ds
-
   lines : (n : ℕ) (answer : ListAnswer) (L : Answer C.ListAnswer) → listAnswer answer ≡ countsOf L → ((a : C.ListAnswer) → L ≡ found a → All (Listed n) (a .points)) → listText answer n (listDistances L ds) (listPoints L zs) ≡ listLines L
   unfolding listLines listDistances listPoints
   lines n (Found f) (found a) same all =

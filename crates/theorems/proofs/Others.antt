@@ -99,7 +99,7 @@ module _ {t : Table} {target : List Float} (limits : Limits t target) {R : Float
     admits y h = tally-some (admitted t target R y) (subst (λ (k : ℕ). 0 < k) (l .exact y) h)
 
     -- an admitted vector other than the first point stands in the rest
-    pub in-rest : (y : List ℤ) → Other t (a .point) y → T (admitted t target R y) → 0 < count y (vectorsOf rest)
+    in-rest : (y : List ℤ) → Other t (a .point) y → T (admitted t target R y) → 0 < count y (vectorsOf rest)
     in-rest y o h = elim (count-cases y (a .point) (vectorsOf rest) (listed y h)) [ inl e ↦ absurd (o .differs e) | inr k ↦ k ]
 
     first-admitted : T (admitted t target R (a .point))
