@@ -50,6 +50,7 @@
  *   18 ListFull             points                                more points than places
  *   19 ReferenceIndex                                             r is not below the point's length
  *   20 ChangedRange         its index                             a coordinate becomes no int64_t
+ *   21 SettingRange         its index                             0: p is not from 1 to 1000, or below q; 1: q is 0
  *
  * The first number that fits is the answer. A refusal leaves every slice that it is lent as it was.
  *
@@ -69,9 +70,9 @@
 #include <stdint.h>
 
 #define SNOWGIMMER_VERSION_MAJOR 0
-#define SNOWGIMMER_VERSION_MINOR 6
+#define SNOWGIMMER_VERSION_MINOR 7
 #define SNOWGIMMER_VERSION_PATCH 0
-#define SNOWGIMMER_VERSION "0.6.0"
+#define SNOWGIMMER_VERSION "0.7.0"
 
 /* The largest n. */
 #define SNOWGIMMER_LARGEST_DIMENSION 23
@@ -79,6 +80,8 @@
 #define SNOWGIMMER_LARGEST_LIST 4096
 /* The largest budget, 2^60. */
 #define SNOWGIMMER_LARGEST_BUDGET ((uint64_t)1 << 60)
+/* The largest p and q of a ratio. */
+#define SNOWGIMMER_LARGEST_FACTOR 1000
 /* The largest magnitude of an entry of mu and of a target, 2^52. */
 #define SNOWGIMMER_COORD_LIMIT 4503599627370496.0
 
@@ -107,7 +110,8 @@ enum snowgimmer_refusal {
     SNOWGIMMER_NO_SEED = 17,
     SNOWGIMMER_LIST_FULL = 18,
     SNOWGIMMER_REFERENCE_INDEX = 19,
-    SNOWGIMMER_CHANGED_RANGE = 20
+    SNOWGIMMER_CHANGED_RANGE = 20,
+    SNOWGIMMER_SETTING_RANGE = 21
 };
 
 /* The name of an answer as in the table above, "Success" of 0, and "Unknown" of a number that is not there. */
@@ -133,7 +137,27 @@ static inline const char *snowgimmer_refusal_name(uint32_t number) {
     case SNOWGIMMER_LIST_FULL: return "ListFull";
     case SNOWGIMMER_REFERENCE_INDEX: return "ReferenceIndex";
     case SNOWGIMMER_CHANGED_RANGE: return "ChangedRange";
+    case SNOWGIMMER_SETTING_RANGE: return "SettingRange";
     default: return "Unknown";
+    }
+}
+
+/* The verdicts of snowgimmer_ratio, which it gives in first. */
+enum snowgimmer_verdict {
+    SNOWGIMMER_NONE = 0,
+    SNOWGIMMER_HOLDS = 1,
+    SNOWGIMMER_FAILS = 2,
+    SNOWGIMMER_OPEN = 3
+};
+
+/* The word that the job program prints for a verdict, and "unknown" of a number that is none. */
+static inline const char *snowgimmer_verdict_name(uint64_t verdict) {
+    switch (verdict) {
+    case SNOWGIMMER_NONE: return "none";
+    case SNOWGIMMER_HOLDS: return "holds";
+    case SNOWGIMMER_FAILS: return "fails";
+    case SNOWGIMMER_OPEN: return "open";
+    default: return "unknown";
     }
 }
 
@@ -216,6 +240,31 @@ uint32_t snowgimmer_change_reference(int64_t *point, size_t point_len, size_t r,
  * 0.4.0. */
 uint32_t snowgimmer_check_entry(uint32_t number, uint64_t at, size_t index, double entry, uint64_t *first,
     uint64_t *second, double *real);
+
+/* Whether the first point of a list stands out: q*d2 >= p*d1 of its first distances d1 and d2. Pass the distances that
+ * snowgimmer_list wrote, as many as it told in second, and the radius that it was given; of a list that was refused,
+ * pass 0 distances. p and q are from 1 to 1000, and p is at least q. With 3 and 1, d2 has to be 3 times d1 or more:
+ *
+ *     number = snowgimmer_list(.., distances, places, .., radius, budget, &first, &second, &real);
+ *     points = number == SNOWGIMMER_SUCCESS ? second : 0;
+ *     number = snowgimmer_ratio(distances, points, radius, 3, 1, &first, &second, &real);
+ *     if (number == SNOWGIMMER_SUCCESS) puts(snowgimmer_verdict_name(first));
+ *
+ * first is the verdict. Every product is rounded once, to a double, and where p*d1 overflows the test is not met.
+ * "Other" is every vector of n integers but the first point, listed or not:
+ *
+ *     HOLDS   q*radius >= p*d1, and q times the computed distance of every other vector is no less than p*d1 either
+ *     FAILS   another vector is listed at d2, and no other is nearer; q*d2 < p*d1, or p*d1 overflows
+ *     OPEN    one point alone is listed, so no other vector is nearer than the radius; q*radius < p*d1, or p*d1
+ *             overflows. Whether another one is too near is not known: unless p*d1 overflows, a radius above p*d1/q
+ *             decides it
+ *     NONE    there is no distance: the list was refused, or no vector is admitted at the radius
+ *
+ * A FIRST DISTANCE OF 0 ALWAYS HOLDS in a list, since q*d2 >= p*0, and says nothing of how far the second vector is.
+ * Any doubles are taken, NaNs too, in any order, and only the first two are read; but what a verdict means is promised
+ * only of the distances that a list at this radius wrote. Refused: 21. Stack: below 1 kB. Since 0.7.0. */
+uint32_t snowgimmer_ratio(const double *distances, size_t distances_len, double radius, uint64_t p, uint64_t q,
+    uint64_t *first, uint64_t *second, double *real);
 
 #ifdef __cplusplus
 }

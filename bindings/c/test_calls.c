@@ -373,12 +373,128 @@ static void entries(void) {
     expect_true("each verdict comes often", told[0] > 100 && told[3] > 100 && told[4] > 100);
 }
 
+/* ratio, which writes its report whatever it held, by so many of these distances */
+static void ratio(const char *what, double d1, double d2, size_t len, double radius, uint64_t p, uint64_t q,
+    uint32_t expected, uint64_t verdict) {
+    const double given[3] = {d1, d2, NAN};
+    double lent[3];
+    memcpy(lent, given, sizeof lent);
+    first = second = 7;
+    real = 7.0;
+    uint32_t number = snowgimmer_ratio(lent, len, radius, p, q, &first, &second, &real);
+    expect(what, number, expected, verdict, 0, 0.0);
+    expect_true(what, same(real, 0.0) && memcmp(lent, given, sizeof lent) == 0);
+}
+
+/* The test of d1 against another double, as the second distance and as the radius of a lone one. */
+static void met(const char *what, double d1, double other, uint64_t p, uint64_t q, int expected) {
+    ratio(what, d1, other, 2, 0.0, p, q, SNOWGIMMER_SUCCESS, expected ? SNOWGIMMER_HOLDS : SNOWGIMMER_FAILS);
+    ratio(what, d1, other, 3, 0.0, p, q, SNOWGIMMER_SUCCESS, expected ? SNOWGIMMER_HOLDS : SNOWGIMMER_FAILS);
+    ratio(what, d1, 0.0, 1, other, p, q, SNOWGIMMER_SUCCESS, expected ? SNOWGIMMER_HOLDS : SNOWGIMMER_OPEN);
+}
+
+static double from_bits(uint64_t bits) {
+    double x;
+    memcpy(&x, &bits, sizeof x);
+    return x;
+}
+
+/* The verdict by 3 and 1 on the list of one weight, lent so many places, as the header's example asks for it. */
+static void ratio_of_list(const char *what, double weight, double t, size_t places, double radius, uint64_t verdict) {
+    const double zero = 0.0;
+    uint32_t number = snowgimmer_list(&weight, 1, &zero, 1, &t, 1, distances, places, points, places, radius, 100,
+        &first, &second, &real);
+    const size_t found = number == SNOWGIMMER_SUCCESS ? (size_t)second : 0;
+    number = snowgimmer_ratio(distances, found, radius, 3, 1, &first, &second, &real);
+    expect(what, number, SNOWGIMMER_SUCCESS, verdict, 0, 0.0);
+}
+
+static void ratios_of_lists(void) {
+    ratio_of_list("no point", 4.0, 0.75, PLACES, 0.125, SNOWGIMMER_NONE);
+    ratio_of_list("a lone point", 4.0, 0.75, PLACES, 0.25, SNOWGIMMER_OPEN);
+    ratio_of_list("a radius below 3 times", 4.0, 0.75, PLACES, from_bits(0x3FE7FFFFFFFFFFFF), SNOWGIMMER_OPEN);
+    ratio_of_list("a radius of 3 times", 4.0, 0.75, PLACES, 0.75, SNOWGIMMER_HOLDS);
+    ratio_of_list("two points", 1.0, 0.4375, PLACES, 1.0, SNOWGIMMER_FAILS);
+    ratio_of_list("two points in one place", 1.0, 0.4375, 1, 1.0, SNOWGIMMER_NONE);
+    ratio_of_list("one point at 0", 1.0, 0.0, PLACES, -0.0, SNOWGIMMER_HOLDS);
+    ratio_of_list("two points at 0", from_bits(1), 0.5, PLACES, 0.0, SNOWGIMMER_HOLDS);
+    expect("list", list(8), SNOWGIMMER_SUCCESS, 7, 5, 0.0);
+    uint32_t number = snowgimmer_ratio(distances, 5, 2.0, 3, 1, &first, &second, &real);
+    expect("5 points, 3 and 1", number, SNOWGIMMER_SUCCESS, SNOWGIMMER_FAILS, 0, 0.0);
+    number = snowgimmer_ratio(distances, 5, 2.0, 2, 1, &first, &second, &real);
+    expect("5 points, 2 and 1", number, SNOWGIMMER_SUCCESS, SNOWGIMMER_HOLDS, 0, 0.0);
+}
+
+/* Where a rounding or an overflow decides. A third of the largest double, times 3, rounds to infinity. */
+static void products(void) {
+    const double third = DBL_MAX / 3.0, below = from_bits(0x7FD5555555555554);
+    met("3 times, rounded", from_bits(0x3FF0000000000003), from_bits(0x4008000000000004), 3, 1, 1);
+    met("below 3 times, rounded", from_bits(0x3FF0000000000003), from_bits(0x4008000000000003), 3, 1, 0);
+    met("a third that is d1", from_bits(0x3FF0000000000001), from_bits(0x4008000000000001), 3, 1, 0);
+    met("no p/q", from_bits(0x3FFAEEB0F8A83510), from_bits(0x4006719379E1818D), 5, 3, 1);
+    met("no product divided", from_bits(0x3FF4B430798D66C4), from_bits(0x400140D30FF5D5A3), 5, 3, 0);
+    met("no quotient", from_bits(0x3FF57FC9618F0ECE), from_bits(0x40001FD7092B4B1A), 3, 2, 1);
+    met("finite", DBL_MAX, DBL_MAX, 1, 1, 1);
+    met("both infinite", DBL_MAX, DBL_MAX, 2, 2, 0);
+    met("the other infinite", below, DBL_MAX, 3, 3, 1);
+    met("a tie to infinity", third, DBL_MAX, 3, 3, 0);
+    met("0", 0.0, 0.0, 1000, 1, 1);
+    met("0 and -0", 0.0, -0.0, 1000, 1, 1);
+    met("a smallest one", from_bits(1), from_bits(999), 1000, 1, 0);
+    met("1000 of the smallest", from_bits(1), from_bits(1000), 1000, 1, 1);
+}
+
+/* Doubles that no list has. */
+static void other_doubles(void) {
+    const double nothing[] = {NAN, HUGE_VAL, -HUGE_VAL}, sound[] = {0.0, 1.0, -1.0};
+    for (int i = 0; i < 3; i++) {
+        ratio("no distance", nothing[i], nothing[i], 0, nothing[i], 3, 1, SNOWGIMMER_SUCCESS, SNOWGIMMER_NONE);
+        for (int k = 0; k < 3; k++) {
+            met("not finite against it", nothing[i], nothing[k], 3, 1, 0);
+            met("not finite", nothing[i], sound[k], 3, 1, 0);
+            met("against not finite", sound[i], nothing[k], 3, 1, nothing[k] > 0.0);
+        }
+    }
+    met("falling", 3.0, 1.0, 1, 1, 0);
+    met("negative", -1.0, -3.0, 3, 1, 1);
+    met("negative, falling", -1.0, -4.0, 3, 1, 0);
+}
+
+/* p and q at the ends of their range, beside 0 to 3 distances. */
+static void factors(void) {
+    const uint64_t ends[] = {0, 1, 2, 999, SNOWGIMMER_LARGEST_FACTOR, 1001, ((uint64_t)1 << 32) + 1, UINT64_MAX};
+    const uint64_t verdict[] = {SNOWGIMMER_NONE, SNOWGIMMER_HOLDS, SNOWGIMMER_HOLDS, SNOWGIMMER_HOLDS};
+    for (int i = 0; i < 8; i++) {
+        for (int k = 0; k < 8; k++) {
+            const uint64_t p = ends[i], q = ends[k];
+            for (size_t len = 0; len < 4; len++) {
+                if (p < 1 || p > 1000 || p < q)
+                    ratio("p", 1.0, 1000.0, len, 1000.0, p, q, SNOWGIMMER_SETTING_RANGE, 0);
+                else if (q < 1)
+                    ratio("q", 1.0, 1000.0, len, 1000.0, p, q, SNOWGIMMER_SETTING_RANGE, 1);
+                else
+                    ratio("p and q", 1.0, 1000.0, len, 1000.0, p, q, SNOWGIMMER_SUCCESS, verdict[len]);
+            }
+        }
+    }
+}
+
+static void ratios(void) {
+    ratios_of_lists();
+    products();
+    other_doubles();
+    factors();
+    static const char *const words[] = {"none", "holds", "fails", "open", "unknown"};
+    for (uint64_t k = 0; k < 5; k++) expect_true(words[k], strcmp(snowgimmer_verdict_name(k), words[k]) == 0);
+    expect_true("verdict 2^32", strcmp(snowgimmer_verdict_name((uint64_t)1 << 32), "unknown") == 0);
+}
+
 static void names(void) {
     static const char *const all[] = {"Success", "Unknown", "TableSize", "MuNonFinite", "MuRange", "WeightRange",
         "LengthMismatch", "NonFinite", "InvalidRadius", "BudgetRange", "CandidateLength", "CandidateDistance",
         "CandidateOutside", "WidenedRadius", "ListSize", "BudgetExhausted", "OutsideRadius", "NoSeed", "ListFull",
-        "ReferenceIndex", "ChangedRange", "Unknown"};
-    for (uint32_t number = 0; number < 22; number++) expect_name(number, all[number]);
+        "ReferenceIndex", "ChangedRange", "SettingRange", "Unknown"};
+    for (uint32_t number = 0; number < 23; number++) expect_name(number, all[number]);
     expect_name(UINT32_MAX, "Unknown");
 }
 
@@ -393,6 +509,7 @@ int main(void) {
     seeds();
     references();
     entries();
+    ratios();
     names();
     if (differences == 0) printf("all as expected\n");
     return differences != 0;

@@ -26,9 +26,9 @@ from fractions import Fraction
 import snowgimmer
 from snowgimmer import (
     BudgetExhausted, BudgetRange, CandidateDistance, CandidateLength, CandidateOutside, ChangedRange, InvalidRadius,
-    LengthMismatch, ListFull, MuNonFinite, MuRange, NonFinite, OutsideRadius, ReferenceIndex, TableSize, TriangleCheck,
-    WeightRange, WidenedRadius, change_reference, list_points, nearest, nearest_ml, nearest_plane, nearest_seeded,
-    round_away, round_coefficients, triangular_distance)
+    LengthMismatch, ListFull, MuNonFinite, MuRange, NonFinite, OutsideRadius, Ratio, ReferenceIndex, SettingRange,
+    TableSize, TriangleCheck, WeightRange, WidenedRadius, change_reference, list_points, nearest, nearest_ml,
+    nearest_plane, nearest_seeded, ratio, round_away, round_coefficients, triangular_distance)
 
 HERE = os.path.dirname(os.path.abspath(__file__))
 
@@ -121,45 +121,53 @@ def bits(x):
 
 
 def read_job(name):
-    """Weights, mu, target, radius and budget of an example's job file."""
+    """Weights, mu, target, radius and budget of an example's job, and its p, q and places; 3, 1 and 256 if none."""
     with open(os.path.join(HERE, "../../examples", f"{name}.job"), "rb") as file:
         data = file.read()
     parts, at = [], 0
-    for kind in "ddddQ":
+    for kind in "ddddQQ":
+        if at == len(data):
+            break
         count = struct.unpack_from("<I", data, at)[0]
         parts.append(struct.unpack_from(f"<{count}{kind}", data, at + 4))
         at += 4 + 8 * count
-    weights, entries, target, (radius,), (budget,) = parts
+    weights, entries, target, (radius,), (budget,) = parts[:5]
+    settings = parts[5] if len(parts) > 5 else (3, 1, 256)
     n = len(weights)
     mu = [[0.0] * n for _ in range(n)]
     for j in range(n):
         mu[j][:j] = entries[j * (j - 1) // 2:j * (j + 1) // 2]
-    return weights, mu, target, radius, budget
+    return (weights, mu, target, radius, budget), settings
 
 
 class Examples(Test):
     """The examples' jobs, against what the job program prints of them."""
 
-    def lines(self, job):
-        """The program's lines of nearest and list."""
+    def lines(self, job, settings):
+        """The program's lines, where no search is refused but by 15 to 18."""
+        (p, q, places), points = settings, ()
         try:
             found = nearest(*job)
             yield " ".join(map(str, ("nearest", found.nodes, bits(found.distance), *found.point)))
-            listed = list_points(*job)
         except snowgimmer.Refusal as refusal:
             yield f"nearest refused {refusal.number} search"
-            return
-        yield f"list {listed.nodes} {len(listed.points)}"
-        for each in listed.points:
+        try:
+            points, nodes = list_points(*job, places)
+            yield f"list {nodes} {len(points)}"
+        except snowgimmer.Refusal as refusal:
+            yield f"list refused {refusal.number} search"
+        for each in points:
             yield " ".join(map(str, (bits(each.distance), *each.point)))
+        yield f"ratio {ratio([each.distance for each in points], job[3], p, q)}"
 
     def test_as_printed(self):
-        for name in "two-levels", "three-ambiguities", "one-point", "twelve-levels", "budget-runs-out":
-            with open(os.path.join(HERE, "../../examples", f"{name}.out"), encoding="ascii") as file:
-                printed = file.read().split("\n")
-            lines = list(self.lines(read_job(name)))
-            self.assertEqual(lines, printed[:len(lines)])
-            self.assertTrue(name == "budget-runs-out" or printed[len(lines)].startswith("ratio"))
+        names = [file[:-4] for file in os.listdir(os.path.join(HERE, "../../examples")) if file.endswith(".job")]
+        self.assertGreaterEqual(len(names), 5)
+        for name in names:
+            with self.subTest(name=name):
+                with open(os.path.join(HERE, "../../examples", f"{name}.out"), encoding="ascii") as file:
+                    printed = file.read()
+                self.assertEqual("".join(f"{line}\n" for line in self.lines(*read_job(name))), printed)
 
 
 class Distances(Test):
@@ -345,6 +353,103 @@ class Entries(Test):
             self.assertGreater(last.count(number), 10)
 
 
+class Ratios(Test):
+    """The verdict on a list."""
+
+    def listed(self, weights, mu, target, radius, places=256):
+        """That on a list by 3 and 1; on no distances where it is refused."""
+        try:
+            points = list_points(weights, mu, target, radius, 100, places).points
+        except snowgimmer.Refusal:
+            points = ()
+        return ratio([each.distance for each in points], radius)
+
+    def test_lists(self):
+        self.assertIs(self.listed([], [], [], 0), Ratio.HOLDS)
+        verdicts = [self.listed(*B, radius) for radius in (0.125, 0.25, 0.75 - 2.0**-53, 0.75)]
+        self.assertEqual(verdicts, [Ratio.NONE, Ratio.OPEN, Ratio.OPEN, Ratio.HOLDS])
+        self.assertEqual([self.listed([1], [0], [0.4375], r) for r in (0.25, 1)], [Ratio.OPEN, Ratio.FAILS])
+        self.assertEqual([self.listed(*E, 1, places) for places in (2, 1)], [Ratio.FAILS, Ratio.NONE])
+        self.assertEqual([self.listed([1], [0], [0], radius) for radius in (0.0, -0.0)], [Ratio.HOLDS] * 2)
+        self.assertIs(self.listed([5e-324], [0], [0.5], 0), Ratio.HOLDS)
+        # 3·d1 overflows
+        verdicts = [self.listed([LARGEST] * 3, [0] * 9, [0.4375] * 3, r) for r in (5 * 2.0**1021, 3 * 2.0**1022)]
+        self.assertEqual(verdicts, [Ratio.OPEN, Ratio.FAILS])
+
+    def test_factors(self):
+        """Every p and q at the ends of their range: the index of 21, or a verdict."""
+        ends = 0, 1, 2, 999, 1000, 1001, 2000, 2**32 + 1, 2**63 + 3, 2**64 - 1
+        for p, q in ((p, q) for p in ends for q in ends):
+            with self.subTest(p=p, q=q):
+                if not 1 <= p <= 1000 or p < q:
+                    self.refused(SettingRange, {"index": 0}, ratio, [1, 3], 9, p, q)
+                elif q == 0:
+                    self.refused(SettingRange, {"index": 1}, ratio, [math.nan], 9, p, q)
+                else:
+                    self.assertIs(ratio([1, 1000], 9, p, q), Ratio.HOLDS)
+        self.assertEqual([ratio([0.25, 0.5], 2, p, q) for p, q in ((1000, 499), (1000, 500), (1, 1))],
+                         [Ratio.FAILS, Ratio.HOLDS, Ratio.HOLDS])
+        self.assertEqual([ratio([1, 3], 9), ratio([1, 3], 9, 4), ratio([1, 3], 9, q=2)],
+                         [Ratio.HOLDS, Ratio.FAILS, Ratio.HOLDS])
+
+    def met(self, d1, other, p, q):
+        """Whether the test is met, of doubles by their bits: as the second distance, and as a lone point's radius."""
+        d1, other = (struct.unpack(">d", bytes.fromhex(each))[0] for each in (d1, other))
+        two, lone = ratio([d1, other], LARGEST, p, q), ratio([d1], other, p, q)
+        self.assertIn((two, lone), ((Ratio.HOLDS, Ratio.HOLDS), (Ratio.FAILS, Ratio.OPEN)))
+        # a weight of 16·d1 has its nearest point at d1 from 0.25, and the next one at 9·d1
+        listed = list_points([16 * d1], [0], [0.25], other, 9).points
+        self.assertEqual([each.distance for each in listed], [d1])
+        return two is Ratio.HOLDS
+
+    def test_roundings(self):
+        """Each product is rounded once, and nothing is divided."""
+        # 3·d1 is above the other one, and rounds to it
+        self.assertTrue(self.met("3FF0000000000003", "4008000000000004", 3, 1))
+        self.assertFalse(self.met("3FF0000000000003", "4008000000000003", 3, 1))
+        # a third of the other one rounds to d1, and its quotient by d1 to 3
+        self.assertFalse(self.met("3FF0000000000001", "4008000000000001", 3, 1))
+        # (p/q)·d1 is above the other one; p·d1/q is not; the other one's quotient by d1 is below p/q
+        self.assertTrue(self.met("3FFAEEB0F8A83510", "4006719379E1818D", 5, 3))
+        self.assertFalse(self.met("3FF4B430798D66C4", "400140D30FF5D5A3", 5, 3))
+        self.assertTrue(self.met("3FF57FC9618F0ECE", "40001FD7092B4B1A", 3, 2))
+
+    def test_infinite_products(self):
+        """p·d1 must not overflow; the other product may."""
+        # 3 times it is halfway between the largest double and 2^1024, and rounds to infinity
+        third = LARGEST / 3
+        below = third - 2.0**970
+        self.assertEqual([ratio([below, LARGEST], 0, 3, q) for q in (1, 3)], [Ratio.HOLDS] * 2)
+        self.assertEqual([ratio([third, LARGEST], 0, 3, q) for q in (1, 3)], [Ratio.FAILS] * 2)
+        self.assertEqual([ratio([d1], LARGEST, 3, 3) for d1 in (below, third)], [Ratio.HOLDS, Ratio.OPEN])
+        distances = [each.distance for each in list_points([LARGEST], [0], [0.5], LARGEST, 100).points]
+        self.assertEqual(distances, [LARGEST / 4] * 2)
+        self.assertEqual([ratio(distances, LARGEST, p, p) for p in (4, 5)], [Ratio.HOLDS, Ratio.FAILS])
+
+    def test_no_list_has_them(self):
+        """Any doubles are taken, and only the first two distances are read."""
+        nan, inf = math.nan, math.inf
+        for radius in nan, -1, 0, inf:
+            self.assertIs(ratio([], radius), Ratio.NONE)
+            for d1 in nan, inf, -inf:
+                self.assertIs(ratio([d1], radius), Ratio.OPEN)
+                self.assertEqual([ratio([d1, d2], radius) for d2 in (nan, d1, 0, inf)], [Ratio.FAILS] * 4)
+            for d1 in 0, 1, -1:
+                verdicts = [ratio([d1, d2], radius) for d2 in (nan, -inf, inf)]
+                self.assertEqual(verdicts, [Ratio.FAILS, Ratio.FAILS, Ratio.HOLDS])
+        self.assertEqual([ratio([0], radius) for radius in (nan, -1, inf)], [Ratio.OPEN, Ratio.OPEN, Ratio.HOLDS])
+        self.assertEqual([ratio([3, 1], 9, 1), ratio([-1, -3], 9)], [Ratio.FAILS, Ratio.HOLDS])
+        self.assertIs(ratio([1, 3, 0, nan], nan), Ratio.HOLDS)
+        self.assertIs(ratio(range(1, 5001), 9), Ratio.FAILS)
+
+    def test_words(self):
+        self.assertEqual([str(each) for each in Ratio], ["none", "holds", "fails", "open"])
+        self.assertEqual(f"{ratio([1, 3], 9)} {ratio([1, 2], 9)}", "holds fails")
+        self.assertEqual([Ratio(word).name for word in ("none", "open")], ["NONE", "OPEN"])
+        for again in copy.copy(Ratio.OPEN), pickle.loads(pickle.dumps(Ratio.OPEN)):
+            self.assertIs(again, Ratio.OPEN)
+
+
 class Refusals(Test):
     def test_tables(self):
         self.refused(TableSize, {"weights": 24}, nearest, [1] * 24, [0] * 576, [0] * 24, 1, 9)
@@ -386,7 +491,7 @@ class Refusals(Test):
 
     def test_one_class_a_number(self):
         kinds = snowgimmer.Refusal.__subclasses__()
-        self.assertEqual(sorted(kind.number for kind in kinds), list(range(2, 21)))
+        self.assertEqual(sorted(kind.number for kind in kinds), list(range(2, 22)))
         for kind in kinds:
             self.assertIs(getattr(snowgimmer, kind.__name__), kind)
             self.assertIn(kind.__name__, snowgimmer.__all__)
@@ -394,11 +499,18 @@ class Refusals(Test):
     def test_names_of_the_header(self):
         with open(os.path.join(HERE, "../../include/snowgimmer.h"), encoding="utf-8") as file:
             header = file.read()
-        numbers = dict(re.findall(r"(SNOWGIMMER_[A-Z_]+) = ([0-9]+)", header))
         names = dict(re.findall(r'case (SNOWGIMMER_[A-Z_]+): return "(\w+)"', header))
-        found = {int(numbers[key]): names[key] for key in numbers if key != "SNOWGIMMER_SUCCESS"}
-        self.assertEqual(found, {kind.number: kind.__name__ for kind in snowgimmer.Refusal.__subclasses__()})
+
+        def named(enum):
+            """The name of each number of an enum of the header."""
+            body = re.search(rf"enum {enum} {{(.*?)}}", header, re.S).group(1)
+            return {int(number): names[key] for key, number in re.findall(r"(SNOWGIMMER_[A-Z_]+) = ([0-9]+)", body)}
+
+        kinds = {kind.number: kind.__name__ for kind in snowgimmer.Refusal.__subclasses__()}
+        self.assertEqual(named("snowgimmer_refusal"), {0: "Success", **kinds})
+        self.assertEqual(named("snowgimmer_verdict"), {k: str(each) for k, each in enumerate(snowgimmer._VERDICTS)})
         self.assertIn(f'SNOWGIMMER_VERSION "{snowgimmer.__version__}"', header)
+        self.assertIn(f"SNOWGIMMER_LARGEST_FACTOR {snowgimmer.LARGEST_FACTOR}\n", header)
 
     def test_messages(self):
         with self.assertRaises(snowgimmer.Refusal) as caught:
@@ -413,6 +525,10 @@ class Refusals(Test):
                                                 "not below the point's length: give that of a coordinate")
         self.assertEqual(str(ChangedRange(index=1)), "refused 20, ChangedRange: coordinate 1 against the new reference "
                                                      "satellite is no 64-bit integer: another satellite may do")
+        self.assertEqual(str(SettingRange(index=0)), "refused 21, SettingRange: p is not from 1 to 1000, or it is "
+                                                     "below q: give p and q from 1 to 1000, p at least q")
+        self.assertEqual(str(SettingRange(index=1)), "refused 21, SettingRange: q is not from 1 to 1000: give one from "
+                                                     "1 to p")
         for again in copy.copy(refusal), pickle.loads(pickle.dumps(refusal)):
             self.assertEqual((type(again), str(again), again.values), (BudgetExhausted, str(refusal), refusal.values))
 
@@ -446,6 +562,19 @@ class Plain(Test):
         self.wrong(ValueError, "point[1] is 9223372036854775808", change_reference, [0, 2**63], 0)
         self.wrong(TypeError, "point[0] is 1.0, of type float", change_reference, [1.0, 2], 0)
         self.wrong(TypeError, "point is of type str", change_reference, "12", 0)
+
+    def test_ratios(self):
+        for name in "p", "q":
+            for factor in -1, 2**64:
+                self.wrong(ValueError, f"{name} is {factor}", lambda: ratio([1, 3], 9, **{name: factor}))
+            for factor in 3.0, True, "3", None, [3]:
+                self.wrong(TypeError, f"{name} is", lambda: ratio([1, 3], 9, **{name: factor}))
+        for radius in "9", None, True, [9]:
+            self.wrong(TypeError, "radius is", ratio, [1, 3], radius)
+        self.wrong(ValueError, "radius is 9007199254740993", ratio, [1, 3], 2**53 + 1)
+        self.wrong(TypeError, "distances is of type float", ratio, 1.0, 9)
+        self.wrong(TypeError, "distances[0] is ListedPoint", ratio, list_points(*E, 1, 9).points, 1)
+        self.wrong(ValueError, "distances[1] is Decimal('0.1')", ratio, [0, Decimal("0.1")], 9)
 
     def test_entries(self):
         check = TriangleCheck()
@@ -558,6 +687,7 @@ class Numpy(Test):
         self.assertEqual(nearest_seeded(*E, numpy.array([2]), numpy.float64(2.25), numpy.int64(100)).point, (0,))
         self.assertEqual(change_reference(numpy.array([1, 2]), numpy.int64(0)), (-1, 1))
         self.assertEqual(TriangleCheck().feed(numpy.int64(3), numpy.float64("nan")).refusal.index, 3)
+        self.assertIs(ratio(numpy.array([1.0, 3.0]), numpy.float64(9), numpy.int64(3), numpy.int64(1)), Ratio.HOLDS)
         self.wrong(TypeError, "of type bool", nearest, numpy.array([True]), [0], [0], 1, 9)
         self.wrong(TypeError, "real number", nearest, [numpy.True_], [0], [0], 1, 9)
         self.wrong(TypeError, "no dimension", nearest, numpy.array(1.0), [0], [0], 1, 9)

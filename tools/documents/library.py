@@ -16,6 +16,7 @@ ARCHIVE = REPOSITORY / "target" / "staticlib" / "libsnowgimmer.a"
 PROGRAM = REPOSITORY / "target" / "bin" / "job"
 LARGEST_BUDGET = 2**60
 LARGEST_LIST = 4096
+VERDICTS = "none", "holds", "fails", "open"  # by their numbers
 
 
 class Missing(Exception):
@@ -109,6 +110,12 @@ def nearest_ml(weights, mu, target, budget=LARGEST_BUDGET):
 def distance(weights, mu, target, point):
     """The computed distance of a point."""
     return call("distance", doubles(weights), doubles(mu), doubles(target), integers(point))[2]
+
+
+def ratio(distances, radius, p, q):
+    """The verdict on a list's distances, by its word."""
+    numbers = ctypes.c_double(radius), ctypes.c_uint64(p), ctypes.c_uint64(q)
+    return VERDICTS[call("ratio", doubles(distances), *numbers)[0]]
 
 
 def list_points(weights, mu, target, radius, budget=LARGEST_BUDGET, places=LARGEST_LIST):

@@ -21,19 +21,32 @@ def crowded(table, radius, budget):
         raise
 
 
-def fix(weights, mu, target, budget):
+def least_met(first, p, q):
+    """The least double R with q·R at least p·first, both rounded. Only a list that is full needs it."""
+    limit = p * first
+    radius = limit / q
+    while q * radius < limit:
+        radius = math.nextafter(radius, math.inf)
+    while q * math.nextafter(radius, 0.0) >= limit:
+        radius = math.nextafter(radius, 0.0)
+    return radius
+
+
+def fix(weights, mu, target, budget, p=3, q=1):
     """Raises library.Refused where a call is refused: 15 says that the budget is too small for a verdict."""
     table = weights, mu, target
     point, nodes, distance = library.nearest_ml(*table, budget)
-    limit = 3.0 * distance
-    radius = math.nextafter(limit, math.inf)
+    # above p/q times the distance, and above the distance itself where p is q
+    radius = math.nextafter(max(p * distance / q, distance), math.inf)
     try:
         listed, more = library.list_points(*table, radius, budget)
     except library.Refused as refusal:
         # more points than places: all that counts is whether a second one is below the limit
-        if refusal.number != LIST_FULL or limit == 0.0 or not crowded(table, math.nextafter(limit, 0.0), budget):
+        if refusal.number != LIST_FULL or distance == 0.0 or p == q:
+            raise
+        if not crowded(table, math.nextafter(least_met(distance, p, q), 0.0), budget):
             raise
         return Verdict(point, distance, None, "fails", radius, nodes)
     second = listed[1][0] if len(listed) > 1 else None
-    verdict = "holds" if second is None or second >= limit else "fails"
+    verdict = library.ratio([d for d, _ in listed], radius, p, q)
     return Verdict(point, distance, second, verdict, radius, nodes + more)

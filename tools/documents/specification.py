@@ -6,7 +6,10 @@ import struct
 
 LARGEST, SMALLEST = 2**63 - 1, -(2**63)
 COORD_LIMIT = 2.0**52
-LARGEST_DIMENSION, LARGEST_BUDGET, LARGEST_LIST, JOB_PLACES = 23, 2**60, 4096, 256
+LARGEST_DIMENSION, LARGEST_BUDGET, LARGEST_LIST = 23, 2**60, 4096
+LARGEST_FACTOR, LARGEST_PLACES = 1000, 256
+DEFAULT_SETTINGS = 3, 1, 256  # p, q and places of a job that ends after the budget
+VERDICTS = "none", "holds", "fails", "open"  # by the C interface's numbers
 
 
 class Refusal(Exception):
@@ -198,6 +201,20 @@ def check_budget(budget):
         raise Refusal(9, budget)
 
 
+def check_factors(p, q):
+    """21 of p and q. The first is at fault where it is below the second, whatever that is."""
+    if not 1 <= p <= LARGEST_FACTOR or p < q:
+        raise Refusal(21, 0)
+    if not 1 <= q <= LARGEST_FACTOR:
+        raise Refusal(21, 1)
+
+
+def check_settings(p, q, places):
+    check_factors(p, q)
+    if not 1 <= places <= LARGEST_PLACES:
+        raise Refusal(21, 2)
+
+
 def check_index(length, r):
     if r >= length:
         raise Refusal(19)
@@ -325,6 +342,28 @@ def check_entry(number, at, index, entry):
     return ()
 
 
+# ---- The ratio
+
+def meets(second, first, p, q):
+    """q·second ≥ p·first, each product rounded once; no second meets a p·first that is not finite."""
+    least = float(p) * first
+    return math.isfinite(least) and float(q) * second >= least
+
+
+def verdict(distances, radius, p, q):
+    """Of the distances in the list's order. With a lone point the radius stands for the second."""
+    if len(distances) == 0:
+        return "none"
+    if len(distances) == 1:
+        return "holds" if meets(radius, distances[0], p, q) else "open"
+    return "holds" if meets(distances[1], distances[0], p, q) else "fails"
+
+
+def ratio(distances, radius, p, q):
+    check_factors(p, q)
+    return (VERDICTS.index(verdict(distances, radius, p, q)),)
+
+
 # ---- Job program
 
 def read_section(data, at, right):
@@ -345,22 +384,29 @@ def as_double(bits):
 
 
 def read_job(data):
+    """The table, target, radius and budget; and the settings."""
     weights, at = read_section(data, 0, lambda count: count <= LARGEST_DIMENSION)
     n = len(weights)
     entries, at = read_section(data, at, lambda count: count == n * (n - 1) // 2)
     target, at = read_section(data, at, lambda count: count == n)
     radius, at = read_section(data, at, lambda count: count == 1)
     budget, at = read_section(data, at, lambda count: count == 1)
+    settings = DEFAULT_SETTINGS
+    if at < len(data):
+        settings, at = read_section(data, at, lambda count: count == 3)
     if at < len(data):
         raise Refusal(1, at)
     mu = [0.0] * (n * n)
     for j in range(n):
         mu[j * n:j * n + j] = map(as_double, entries[j * (j - 1) // 2:j * (j + 1) // 2])
-    return list(map(as_double, weights)), mu, list(map(as_double, target)), as_double(radius[0]), budget[0]
+    job = list(map(as_double, weights)), mu, list(map(as_double, target)), as_double(radius[0]), budget[0]
+    return job, tuple(settings)
 
 
 def refusal_line(word, number):
-    group = "layout" if number == 1 else "table" if number <= 5 else "call" if number <= 14 else "search"
+    group = "table" if number <= 5 else "call" if number <= 14 else "search"
+    if number in (1, 21):
+        group = "layout"
     return f"{word} refused {number} {group}\n"
 
 
@@ -378,18 +424,9 @@ def nearest_line(weights, mu, target, radius, budget):
     return f"nearest {nodes} " + point_text(d, out)
 
 
-def verdict(count, first, second, radius):
-    """Of the number of points listed, the first two distances and the job's radius."""
-    if count == 0:
-        return "none"
-    if count == 1:
-        return "holds" if radius >= 3.0 * first else "open"
-    return "holds" if second >= 3.0 * first else "fails"
-
-
-def list_lines(weights, mu, target, radius, budget):
+def list_lines(weights, mu, target, radius, budget, p, q, places):
     n = len(weights)
-    distances, points = [0.0] * JOB_PLACES, [0] * (JOB_PLACES * n)
+    distances, points = [0.0] * places, [0] * (places * n)
     try:
         nodes, count = list_points(weights, mu, target, distances, points, radius, budget)
     except Refusal as refusal:
@@ -397,12 +434,13 @@ def list_lines(weights, mu, target, radius, budget):
     text = f"list {nodes} {count}\n"
     for k in range(count):
         text += point_text(distances[k], points[k * n:k * n + n])
-    return text + f"ratio {verdict(count, distances[0], distances[1], radius)}\n"
+    return text + f"ratio {verdict(distances[:count], radius, p, q)}\n"
 
 
 def job_text(data):
     try:
-        job = read_job(data)
+        job, settings = read_job(data)
+        check_settings(*settings)
     except Refusal as refusal:
         return refusal_line("job", refusal.number)
-    return nearest_line(*job) + list_lines(*job)
+    return nearest_line(*job) + list_lines(*job, *settings)

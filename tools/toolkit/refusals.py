@@ -3,9 +3,13 @@
 import collections
 import math
 
+from toolkit import ratio
+
 COORD_LIMIT = 2.0**52
 LARGEST_BUDGET = 2**60
+LIST_FULL, SETTING_RANGE = 18, 21
 
+# `{places}` in a meaning is how many places the list has, with the word.
 Refusal = collections.namedtuple("Refusal", "name meaning remedy")
 
 REFUSALS = {
@@ -32,19 +36,42 @@ REFUSALS = {
                 "give a larger budget, a smaller radius or a reduced table"),
     16: Refusal("OutsideRadius", "no vector of integers is inside the radius", "give a larger radius"),
     17: Refusal("NoSeed", "a seeded search found no vector", "none: it is proved that this never comes"),
-    18: Refusal("ListFull", "the radius has more vectors than the list's 256 places", "give a smaller radius"),
+    18: Refusal("ListFull", "the radius has more vectors than the list's {places}", "give a smaller radius"),
     19: Refusal("ReferenceIndex", "the new reference satellite's index is not below the point's length",
                 "give the index of a coordinate"),
     20: Refusal("ChangedRange", "a coordinate against the new reference satellite is no 64-bit integer",
                 "correct the point where it is made, or take another reference satellite"),
+    21: Refusal("SettingRange", "a setting is out of range",
+                "give p and q from 1 to 1000 with p at least q, and places from 1 to 256"),
 }
+
+
+def meaning(number, settings):
+    places = "1 place" if settings.places == 1 else f"{settings.places} places"
+    return REFUSALS[number].meaning.format(places=places)
+
+
+def remedy(number, settings):
+    """What to do. Of a list that is full, more places are one way where more can be had."""
+    more = number == LIST_FULL and settings.places < ratio.LARGEST_PLACES
+    return REFUSALS[number].remedy + (f", or more places, {ratio.LARGEST_PLACES} at most" if more else "")
 
 
 def _first(values, wrong, name):
     return next((f"{name(i)} is {value!r}" for i, value in enumerate(values) if wrong(value)), None)
 
 
-def place(number, weights, mu, target, radius, budget):
+def setting(settings):
+    """Which setting is out of range, the first of them, or None."""
+    p, q, places = settings
+    index = ratio.fault(settings)
+    if index == 0 and 1 <= p <= ratio.LARGEST_FACTOR:
+        return f"p of the ratio is {p}, below q, which is {q}"
+    named = f"p of the ratio is {p}", f"q of the ratio is {q}", f"places is {places}"
+    return None if index is None else named[index]
+
+
+def place(number, weights, mu, target, radius, budget, settings):
     """Which number of the table the refusal is about, or None. `mu` is the triangle as rows."""
     places = [(j, i) for j, row in enumerate(mu) for i in range(len(row))]
     flat = [mu[j][i] for j, i in places]
@@ -60,8 +87,10 @@ def place(number, weights, mu, target, radius, budget):
         return _first(weights, lambda x: not 0 < x < math.inf, lambda i: f"weights[{i}]")
     if number == 7:
         return _first(target, lambda x: not abs(x) <= COORD_LIMIT, lambda i: f"target[{i}]")
-    if number in (8, 16, 18):
+    if number in (8, 16, LIST_FULL):
         return f"the radius is {radius!r}"
     if number in (9, 15):
         return f"the budget is {budget}"
+    if number == SETTING_RANGE:
+        return setting(settings)
     return None

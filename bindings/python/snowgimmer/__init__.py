@@ -35,6 +35,12 @@ refuses raises a `Refusal`, which has a class for each number.
     ...     print(refusal.number, refusal.name, refusal.values)
     15 BudgetExhausted {'nodes': 4, 'radius': 0.25}
 
+`ratio` says whether the first point of a list stands out, q times the second distance being at least p times the first:
+
+    >>> listed = list_points(weights, mu, target, radius=2, budget=100)
+    >>> ratio([each.distance for each in listed.points], radius=2, p=3, q=1)
+    <Ratio.FAILS: 'fails'>
+
 In positioning a point's integers are cycles against one reference satellite. When that one sets, take another:
 
     >>> change_reference((0, 1), reference=1)
@@ -44,6 +50,7 @@ A `TriangleCheck` checks a table while it arrives, entry by entry, from a file o
 """
 
 import ctypes
+import enum
 from typing import NamedTuple, Tuple
 
 from . import library as _library
@@ -51,22 +58,23 @@ from . import values as _values
 from .refusals import (
     BudgetExhausted, BudgetRange, CandidateDistance, CandidateLength, CandidateOutside, ChangedRange, InvalidRadius,
     LengthMismatch, ListFull, ListSize, MuNonFinite, MuRange, NoSeed, NonFinite, OutsideRadius, ReferenceIndex, Refusal,
-    TableSize, WeightRange, WidenedRadius)
+    SettingRange, TableSize, WeightRange, WidenedRadius)
 from .refusals import refusal as _refusal
 
-__version__ = "0.6.0"
+__version__ = "0.7.0"
 
 LARGEST_DIMENSION = 23
 LARGEST_LIST = 4096
 LARGEST_BUDGET = 2**60
+LARGEST_FACTOR = 1000
 
 __all__ = [
     "nearest", "nearest_seeded", "nearest_ml", "list_points", "triangular_distance", "nearest_plane",
-    "round_coefficients", "round_away", "change_reference", "TriangleCheck", "Nearest", "Listed", "ListedPoint",
-    "Plane", "LARGEST_DIMENSION", "LARGEST_LIST", "LARGEST_BUDGET", "Refusal", "TableSize", "MuNonFinite", "MuRange",
-    "WeightRange", "LengthMismatch", "NonFinite", "InvalidRadius", "BudgetRange", "CandidateLength",
-    "CandidateDistance", "CandidateOutside", "WidenedRadius", "ListSize", "BudgetExhausted", "OutsideRadius", "NoSeed",
-    "ListFull", "ReferenceIndex", "ChangedRange",
+    "round_coefficients", "round_away", "change_reference", "ratio", "TriangleCheck", "Nearest", "Listed",
+    "ListedPoint", "Plane", "Ratio", "LARGEST_DIMENSION", "LARGEST_LIST", "LARGEST_BUDGET", "LARGEST_FACTOR", "Refusal",
+    "TableSize", "MuNonFinite", "MuRange", "WeightRange", "LengthMismatch", "NonFinite", "InvalidRadius", "BudgetRange",
+    "CandidateLength", "CandidateDistance", "CandidateOutside", "WidenedRadius", "ListSize", "BudgetExhausted",
+    "OutsideRadius", "NoSeed", "ListFull", "ReferenceIndex", "ChangedRange", "SettingRange",
 ]
 
 _loaded = _library.load()
@@ -99,6 +107,33 @@ class Plane(NamedTuple):
 
     point: Tuple[int, ...]  #: the nearest-plane point z
     residual: Tuple[float, ...]  #: t - z, rounded
+
+
+class Ratio(enum.Enum):
+    """The verdict on a list, by its first distances d1 and d2, its radius and the factors p and q of `ratio`.
+
+    "Other" is every vector of n integers but the list's first point, listed or not. Every product is rounded once, to a
+    double, and where p*d1 overflows the test is not met. What is said here is promised of the distances that a list at
+    this radius gave. A member's value, and its str, is the word that the job program prints. Since 0.7.0.
+    """
+
+    #: there is no distance: no list, or no vector that is admitted at the radius
+    NONE = "none"
+    #: q*radius >= p*d1, and q times the computed distance of every other vector is no less than p*d1 either. A first
+    #: distance of 0 always holds, and then says nothing of how far the second vector is
+    HOLDS = "holds"
+    #: another vector is listed at d2, and no other is nearer; q*d2 < p*d1, or p*d1 overflows
+    FAILS = "fails"
+    #: one point alone is listed, so no other vector is nearer than the radius; q*radius < p*d1, or p*d1 overflows.
+    #: Whether another one is too near is not known: unless p*d1 overflows, a radius above p*d1/q decides it
+    OPEN = "open"
+
+    def __str__(self):
+        return self.value
+
+
+# by the library's numbers
+_VERDICTS = Ratio.NONE, Ratio.HOLDS, Ratio.FAILS, Ratio.OPEN
 
 
 class _Table:
@@ -136,6 +171,10 @@ def _call(name, slices, *numbers):
 
 def _budget(budget):
     return _values.whole("budget", budget, 0, 2**64 - 1)
+
+
+def _factor(name, factor):
+    return _values.whole(name, factor, 0, 2**64 - 1)
 
 
 def nearest(weights, mu, target, radius, budget):
@@ -239,6 +278,26 @@ def change_reference(point, reference):
     changed, reference = _values.integers("point", point), _values.whole("reference", reference, 0, 2**64 - 1)
     _call("change_reference", (changed,), reference)
     return tuple(changed)
+
+
+def ratio(distances, radius, p=3, q=1):
+    """Whether the first point of a list stands out: q*d2 >= p*d1 of its first distances d1 and d2, as a `Ratio`.
+
+    Where one point alone is listed, the radius stands for d2. `distances` are those of `list_points`, in its order, and
+    `radius` is the one that it was given; of a list that was refused, give none. p and q are from 1 to 1000, and p is
+    at least q. Any numbers are taken for distances and radius, NaN too, in any order, and only the first two distances
+    count; but what a `Ratio` says of the vectors is promised only of the distances that a list at this radius gave.
+
+        >>> [str(ratio([0.25, 0.5], 2, p, q)) for p, q in ((3, 1), (2, 1), (5, 2))]
+        ['fails', 'holds', 'fails']
+        >>> [str(ratio(distances, radius=0.5)) for distances in ([], [0.25], [0.125])]
+        ['none', 'open', 'holds']
+
+    Raises SettingRange if p or q is not from 1 to 1000, or p is below q. Since 0.7.0.
+    """
+    found, radius = _values.doubles("distances", distances), _values.double("radius", radius)
+    verdict, _, _ = _call("ratio", (found,), radius, _factor("p", p), _factor("q", q))
+    return _VERDICTS[verdict]
 
 
 class TriangleCheck:

@@ -12,6 +12,7 @@ TABLE = DOUBLES + DOUBLES
 REPORT = (ctypes.POINTER(ctypes.c_uint64), ctypes.POINTER(ctypes.c_uint64), ctypes.POINTER(ctypes.c_double))
 RADIUS, BUDGET, INDEX = (ctypes.c_double,), (ctypes.c_uint64,), (ctypes.c_size_t,)
 VERDICT, ENTRY = (ctypes.c_uint32, ctypes.c_uint64), (ctypes.c_double,)
+FACTORS = (ctypes.c_uint64, ctypes.c_uint64)
 
 ADVICE = (f"Let the variable SNOWGIMMER_LIB name the folder that holds {NAME}, or its file. In the repository "
           "`tools/install --build` makes it, and the module finds it there")
@@ -27,6 +28,7 @@ ARGUMENTS = {
     "distance": TABLE + DOUBLES + INTEGERS,
     "change_reference": INTEGERS + INDEX,
     "check_entry": VERDICT + INDEX + ENTRY,
+    "ratio": DOUBLES + RADIUS + FACTORS,
 }
 
 

@@ -191,6 +191,18 @@ class ChangedRange(Refusal):
     sentence = "coordinate {index} against the new reference satellite is no 64-bit integer: another satellite may do"
 
 
+class SettingRange(Refusal):
+    """21: a factor of a ratio is not from 1 to 1,000, or p is below q; index 0 is p's, and 1 that of a q of 0."""
+
+    number = 21
+    fields = ("index",)
+
+    def text(self):
+        if self.values["index"] == 0:
+            return "p is not from 1 to 1000, or it is below q: give p and q from 1 to 1000, p at least q"
+        return "q is not from 1 to 1000: give one from 1 to p"
+
+
 BY_NUMBER = {kind.number: kind for kind in Refusal.__subclasses__()}
 
 

@@ -1,6 +1,6 @@
-//! The nearest integer vector and the list of all within a radius, over a table of two weights.
+//! The nearest integer vector, the list of all within a radius and the verdict on it, over a table of two weights.
 
-use snowgimmer::{Refusal, Table};
+use snowgimmer::{Refusal, Table, ratio};
 
 fn main() -> Result<(), Refusal> {
     // mu by rows: only the entry below the diagonal is read
@@ -17,6 +17,9 @@ fn main() -> Result<(), Refusal> {
     for (distance, point) in list.iter() {
         println!("  distance {distance}, point {point:?}");
     }
+
+    // whether the second distance is at least 3 times the first, or twice it
+    println!("ratio 3: {}, ratio 2: {}", ratio(list.distances, 2.0, 3, 1)?, ratio(list.distances, 2.0, 2, 1)?);
 
     // a budget of 4 nodes is too small by one
     if let Err(refusal) = table.nearest(&target, 2.0, 4) {

@@ -127,4 +127,15 @@ unsafe extern "C" {
         second: *mut u64,
         real: *mut f64,
     ) -> u32;
+
+    pub(crate) fn snowgimmer_ratio(
+        distances: *const f64,
+        distances_len: usize,
+        radius: f64,
+        p: u64,
+        q: u64,
+        first: *mut u64,
+        second: *mut u64,
+        real: *mut f64,
+    ) -> u32;
 }

@@ -32,9 +32,10 @@
 //! ```
 //!
 //! [`Table`] gives points by value. The functions beside it write to slices that they are lent, and have the names and
-//! arguments of the Rust original, which has no [`change_reference`]. [`TriangleCheck`] checks a table's entries one at
-//! a time, while the table is being received. Every one is that of the proved library: for all inputs its answer is the
-//! one that the library's contract fixes, and a refusal leaves every slice that it was lent as it was.
+//! arguments of the Rust original, which has no [`change_reference`] and no [`ratio`]. The latter is the verdict on a
+//! list, whether its first point stands out. [`TriangleCheck`] checks a table's entries one at a time, while the table
+//! is being received. Every one is that of the proved library: for all inputs its answer is the one that the library's
+//! contract fixes, and a refusal leaves every slice that it was lent as it was.
 //!
 //! The crate needs no standard library, allocates nothing and keeps nothing between calls. The variable SNOWGIMMER_LIB
 //! names the folder of `libsnowgimmer.a`, or the file, while a program is built.
@@ -50,10 +51,12 @@
 #![warn(missing_docs)]
 
 mod ffi;
+mod ratio;
 mod refusal;
 mod table;
 mod triangle;
 
+pub use ratio::{Ratio, ratio};
 pub use refusal::Refusal;
 pub use table::{List, Nearest, Point, Table};
 pub use triangle::TriangleCheck;
@@ -66,6 +69,9 @@ pub const LARGEST_LIST: usize = 4096;
 
 /// The largest budget.
 pub const LARGEST_BUDGET: u64 = 1 << 60;
+
+/// The largest p and q of a [`ratio()`].
+pub const LARGEST_FACTOR: u64 = 1000;
 
 /// What a call tells beside the slices that it is lent.
 #[derive(Default)]

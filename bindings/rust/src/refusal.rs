@@ -107,6 +107,11 @@ pub enum Refusal {
         /// Its index.
         index: usize,
     },
+    /// 21: a factor of a ratio is not from 1 to 1,000, or p is below q.
+    SettingRange {
+        /// 0: p is out of range, or below q. 1: q is 0.
+        index: usize,
+    },
 }
 
 impl Refusal {
@@ -133,6 +138,7 @@ impl Refusal {
             18 => Self::ListFull { points: a },
             19 => Self::ReferenceIndex,
             20 => Self::ChangedRange { index: a },
+            21 => Self::SettingRange { index: a },
             _ => unreachable!("the library has no refusal {number}"),
         }
     }
@@ -160,6 +166,7 @@ impl Refusal {
             Self::ListFull { .. } => 18,
             Self::ReferenceIndex => 19,
             Self::ChangedRange { .. } => 20,
+            Self::SettingRange { .. } => 21,
         }
     }
 }
@@ -213,6 +220,10 @@ impl fmt::Display for Refusal {
             Self::ChangedRange { index: i } => {
                 write!(f, "coordinate {i} against the new reference satellite is no i64: another satellite may do")
             }
+            Self::SettingRange { index: 0 } => {
+                write!(f, "p is not from 1 to 1000, or it is below q: give p and q from 1 to 1000, p at least q")
+            }
+            Self::SettingRange { .. } => write!(f, "q is not from 1 to 1000: give one from 1 to p"),
         }
     }
 }

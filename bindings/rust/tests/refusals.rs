@@ -2,7 +2,8 @@
 //! not tell apart, by their bits.
 
 use snowgimmer::{
-    Refusal, change_reference, list, nearest, nearest_ml, nearest_plane, nearest_seeded, round, triangular_distance,
+    Refusal, change_reference, list, nearest, nearest_ml, nearest_plane, nearest_seeded, ratio, round,
+    triangular_distance,
 };
 use std::fmt::Debug;
 
@@ -222,6 +223,17 @@ fn one_reference_after_another() {
 }
 
 #[test]
+fn ratios() {
+    let by = |p: u64, q: u64| ratio(&nans(2), f64::NAN, p, q).unwrap_err();
+    for (p, q) in [(0, 0), (0, 1), (1001, 1), (1001, 0), (5, 6), (5, 2000), (u64::MAX, u64::MAX), ((1 << 32) + 3, 1)] {
+        assert_eq!(by(p, q), Refusal::SettingRange { index: 0 });
+    }
+    for p in [1, 5, 1000] {
+        assert_eq!(by(p, 0), Refusal::SettingRange { index: 1 });
+    }
+}
+
+#[test]
 fn told_in_words() {
     let told = |refusal: Refusal, words: &str| assert_eq!(refusal.to_string(), words);
     told(Refusal::TableSize { weights: 24 }, "refused 2: the table has 24 weights, and at most 23 are taken");
@@ -246,6 +258,11 @@ fn told_in_words() {
         Refusal::ChangedRange { index: 1 },
         "refused 20: coordinate 1 against the new reference satellite is no i64: another satellite may do",
     );
+    told(
+        Refusal::SettingRange { index: 0 },
+        "refused 21: p is not from 1 to 1000, or it is below q: give p and q from 1 to 1000, p at least q",
+    );
+    told(Refusal::SettingRange { index: 1 }, "refused 21: q is not from 1 to 1000: give one from 1 to p");
     let error: &dyn std::error::Error = &Refusal::NoSeed { radius: 1.0 };
     assert_eq!(error.to_string(), "refused 17: no vector is inside the widened radius 1.0");
 }

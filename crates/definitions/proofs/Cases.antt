@@ -1,4 +1,4 @@
--- The bench cases of docs/SPECIFICATION.md, A to L, the case "distance", those of `change_reference`, of entries one at a time, of a radius of minus zero and of the ratio, proved together by one evaluation of the definitions. Case I's list is taken with a budget of 6 (docs/DECISIONS.md).
+-- The bench cases of docs/SPECIFICATION.md, A to L, the case "distance", those of `change_reference`, of entries one at a time, of a radius of minus zero, of the ratio and of its settings, proved together by one evaluation of the definitions. Case I's list is taken with a budget of 6 (docs/DECISIONS.md).
 -- Assumes nothing.
 use mathlib.Core.Path.{_≡_, refl}
 use Prim.Native.Nat.{ℕ, zero, suc, _+_, _-_, _*_, _/_, _%_, _^_}
@@ -12,12 +12,14 @@ use Rattle.definitions.specs.Table.{Table, plusZero, minusZero, one, coo
 use Rattle.definitions.specs.Distance.{partial}
 use Rattle.definitions.specs.Admitted.{admitted}
 use Rattle.definitions.specs.Listing.{ListPoint}
-use Rattle.definitions.specs.Refusals.{muNonFinite, muRange, outsideRadius, budgetExhausted, nonFinite, invalidRadius, candidateOutside, budgetRange, referenceIndex, changedRange}
+use Rattle.definitions.specs.Refusals.{muNonFinite, muRange, outsideRadius, budgetExhausted, nonFinite, invalidRadius, candidateOutside, budgetRange, referenceIndex, changedRange, settingRange}
 use Rattle.definitions.specs.Checks.{Verdict, pass, refuse, firstRefusal, tableChecks}
 use Rattle.definitions.specs.Entries.{Entry, entryOf, fedAll}
 use Rattle.definitions.specs.Calls.{Answer, found, refused, NearestPoint, ListAnswer, nearest, nearestSeeded, nearestMl, list}
 use Rattle.definitions.specs.Reference.{changeReference, changeOutput}
-use Rattle.definitions.specs.Ratio.{Ratio, holds, fails, «open», none, listRatio}
+use Rattle.definitions.specs.Settings.{settingsCheck}
+use Rattle.definitions.specs.Ratio.{Ratio, holds, fails, «open», none, listRatio, ratioCall}
+use Rattle.definitions.specs.JobLayout.{Layout, job, layout-fault, jobOf}
 use Rattle.definitions.specs.JobText.{text, jobOutput}
 
 -- ---- the cases' numbers
@@ -333,9 +335,13 @@ jobB = sectionOf (bits (four ∷ [])) ++ sectionOf [] ++ sectionOf (bits targetB
 abbrev printedB : List ℕ
 printedB = text "nearest 1 3FD0000000000000 1\nlist 1 1\n3FD0000000000000 1\nratio open\n"
 
+-- ---- E as a job
+abbrev jobE : List ℕ
+jobE = sectionOf (bits (one ∷ [])) ++ sectionOf [] ++ sectionOf (bits targetE) ++ sectionOf (bits (one ∷ [])) ++ sectionOf (2 ∷ [])
+
 -- ---- the ratio
 abbrev ratioAt : Table → List Float → List ℤ → Float → Ratio
-ratioAt t target points R = listRatio (list t target places points R 100) R
+ratioAt t target points R = listRatio 3 1 (list t target places points R 100) R
 
 -- of dimension 1: by weight, target and radius
 abbrev ratioAt1 : Float → Float → Float → Ratio
@@ -367,7 +373,7 @@ ratioCases =
     ∷ ratioAt1 one (over 7 3) one
     -- C; E with one place, which is 18; G
     ∷ ratioAt tableB targetB places1 (over 1 2)
-    ∷ listRatio (list tableE targetE (one ∷ []) (pos 7 ∷ []) one 100) one
+    ∷ listRatio 3 1 (list tableE targetE (one ∷ []) (pos 7 ∷ []) one 100) one
     ∷ ratioAt tableG targetG places2 two
     -- d1 is 0: alone at radius 0 and at minus zero, and twice with weight 2^-1074
     ∷ ratioAt1 one plusZero plusZero
@@ -404,6 +410,137 @@ ratioVerdicts =
     ∷ fails
     ∷ []
 
+-- ---- the settings: p, q, the distances and R
+abbrev callCases : List (Answer Ratio)
+callCases =
+    -- each product is rounded by itself: not d2 against (p/q)·d1 nor against p·d1/q, nor d2/d1 against p/q
+    ratioCall 5 3 (double 4610259612420551952 ∷ double 4613499746506604941 ∷ []) one
+    ∷ ratioCall 5 3 (double 4608506438997599940 ∷ double 4612038768654144931 ∷ []) one
+    ∷ ratioCall 3 2 (double 4608730296585490126 ∷ double 4611721026859649818 ∷ []) one
+    -- p·d1 overflows, so that inf ≥ inf does not count; and only q·d2 does
+    ∷ ratioCall 5 5 (largest ∷ largest ∷ []) largest
+    ∷ ratioCall 5 5 (largest ∷ []) largest
+    ∷ ratioCall 1000 1000 (one ∷ largest ∷ []) one
+    -- d2 = d1 at p = q, and at p = q + 1
+    ∷ ratioCall 1000 1000 (one ∷ one ∷ []) one
+    ∷ ratioCall 1000 999 (one ∷ one ∷ []) one
+    -- one distance: R has q as its factor, 2·1.5 is 3 and the double below it is not, and q·R may be infinite
+    ∷ ratioCall 3 2 (one ∷ []) (over 3 0)
+    ∷ ratioCall 3 2 (one ∷ []) (over (3 * 2 ^ 51 - 1) 51)
+    ∷ ratioCall 1000 1000 (one ∷ []) largest
+    -- what no list has: no order, NaNs, an infinite first distance
+    ∷ ratioCall 1 1 (two ∷ one ∷ []) two
+    ∷ ratioCall 1 1 (nan ∷ one ∷ []) two
+    ∷ ratioCall 1 1 (one ∷ nan ∷ []) two
+    ∷ ratioCall 1 1 (one ∷ []) nan
+    ∷ ratioCall 1 1 (inf false ∷ inf false ∷ []) two
+    ∷ ratioCall 1 1 [] nan
+    -- 21
+    ∷ ratioCall 0 0 [] one
+    ∷ ratioCall 1001 1 [] one
+    ∷ ratioCall 1 2 [] one
+    ∷ ratioCall 5 2000 [] one
+    ∷ ratioCall 5 0 [] one
+    ∷ []
+
+abbrev callAnswers : List (Answer Ratio)
+callAnswers =
+    found holds
+    ∷ found fails
+    ∷ found holds
+    ∷ found fails
+    ∷ found «open»
+    ∷ found holds
+    ∷ found holds
+    ∷ found fails
+    ∷ found holds
+    ∷ found «open»
+    ∷ found holds
+    ∷ found fails
+    ∷ found fails
+    ∷ found fails
+    ∷ found «open»
+    ∷ found fails
+    ∷ found none
+    ∷ refused (settingRange 0)
+    ∷ refused (settingRange 0)
+    ∷ refused (settingRange 0)
+    ∷ refused (settingRange 0)
+    ∷ refused (settingRange 1)
+    ∷ []
+
+-- ---- a sixth section
+abbrev settingsBytes : ℕ → ℕ → ℕ → List ℕ
+settingsBytes p q places = sectionOf (p ∷ q ∷ places ∷ [])
+
+abbrev settingTexts : List (List ℕ)
+settingTexts =
+    -- B with the default settings, with p = q and one place, and E with one place
+    jobOutput (jobB ++ settingsBytes 3 1 256)
+    ∷ jobOutput (jobB ++ settingsBytes 1 1 1)
+    ∷ jobOutput (jobE ++ settingsBytes 1000 1 1)
+    -- 21: p below q; q 0; places 0 and 257
+    ∷ jobOutput (jobB ++ settingsBytes 2 3 256)
+    ∷ jobOutput (jobB ++ settingsBytes 3 0 256)
+    ∷ jobOutput (jobB ++ settingsBytes 3 1 0)
+    ∷ jobOutput (jobB ++ settingsBytes 3 1 257)
+    ∷ []
+
+abbrev printedTexts : List (List ℕ)
+printedTexts =
+    printedB
+    ∷ text "nearest 1 3FD0000000000000 1\nlist 1 1\n3FD0000000000000 1\nratio holds\n"
+    ∷ text "nearest 2 3FD0000000000000 0\nlist refused 18 search\nratio none\n"
+    ∷ text "job refused 21 layout\n"
+    ∷ text "job refused 21 layout\n"
+    ∷ text "job refused 21 layout\n"
+    ∷ text "job refused 21 layout\n"
+    ∷ []
+
+-- A's 36 bytes alone; with others behind them: one; a count of 3 and a byte; a count of 0, of 2 and of 4, alone; a whole section and a byte
+abbrev layouts : List Layout
+layouts =
+    jobOf jobA
+    ∷ jobOf (jobA ++ 0 ∷ [])
+    ∷ jobOf (jobA ++ 3 ∷ 0 ∷ 0 ∷ 0 ∷ 7 ∷ [])
+    ∷ jobOf (jobA ++ 0 ∷ 0 ∷ 0 ∷ 0 ∷ [])
+    ∷ jobOf (jobA ++ 2 ∷ 0 ∷ 0 ∷ 0 ∷ [])
+    ∷ jobOf (jobA ++ 4 ∷ 0 ∷ 0 ∷ 0 ∷ [])
+    ∷ jobOf (jobA ++ settingsBytes 3 1 256 ++ 0 ∷ [])
+    ∷ []
+
+abbrev layoutsRead : List Layout
+layoutsRead =
+    job (record { table = tableA; target = []; radius = plusZero; budget = 0; settings = record { p = 3; q = 1; places = 256 } })
+    ∷ layout-fault 37
+    ∷ layout-fault 41
+    ∷ layout-fault 36
+    ∷ layout-fault 36
+    ∷ layout-fault 36
+    ∷ layout-fault 64
+    ∷ []
+
+-- ---- the first setting out of range
+abbrev settingChecks : List Verdict
+settingChecks =
+    settingsCheck (record { p = 1000; q = 1000; places = 1 })
+    ∷ settingsCheck (record { p = 3; q = 1; places = 0 })
+    ∷ settingsCheck (record { p = 3; q = 1; places = 257 })
+    ∷ settingsCheck (record { p = 3; q = 0; places = 0 })
+    ∷ settingsCheck (record { p = 2; q = 3; places = 0 })
+    ∷ settingsCheck (record { p = 5; q = 2000; places = 256 })
+    ∷ []
+
+abbrev settingVerdicts : List Verdict
+settingVerdicts =
+    pass
+    ∷ refuse (settingRange 2)
+    ∷ refuse (settingRange 2)
+    ∷ refuse (settingRange 1)
+    ∷ refuse (settingRange 0)
+    ∷ refuse (settingRange 0)
+    ∷ []
+
 pub record Cases : Type 0 where
   pub nearest-cases : nearestCases ≡ nearestAnswers
   pub list-cases : listCases ≡ listAnswers
@@ -417,12 +554,16 @@ pub record Cases : Type 0 where
   pub zero-cases : zeroCases ≡ zeroAnswers
   pub zero-lists : zeroLists ≡ zeroListAnswers
   pub ratio-cases : ratioCases ≡ ratioVerdicts
+  pub ratio-calls : callCases ≡ callAnswers
+  pub setting-texts : settingTexts ≡ printedTexts
+  pub layouts-read : layouts ≡ layoutsRead
+  pub setting-checks : settingChecks ≡ settingVerdicts
   pub printed : jobOutput jobG ≡ printedG
   pub printed-open : jobOutput jobB ≡ printedB
   pub printed-empty : jobOutput jobA ≡ printedA
 
 pub cases : Cases
-unfolding nearest list listRatio nearestSeeded nearestMl roundAway changeReference changeOutput fedAll firstRefusal tableChecks partial admitted jobOutput text toBits ofBits bytesOf joined
+unfolding nearest list listRatio ratioCall settingsCheck nearestSeeded nearestMl roundAway changeReference changeOutput fedAll firstRefusal tableChecks partial admitted jobOutput text toBits ofBits bytesOf joined
 cases = record {
   nearest-cases = refl;
   list-cases = refl;
@@ -436,6 +577,10 @@ cases = record {
   zero-cases = refl;
   zero-lists = refl;
   ratio-cases = refl;
+  ratio-calls = refl;
+  setting-texts = refl;
+  layouts-read = refl;
+  setting-checks = refl;
   printed = refl;
   printed-open = refl;
   printed-empty = refl;

@@ -9,14 +9,14 @@ use lib.Dec.{leb, ltb, eqb}
 use lib.ListN.{length, take, drop, take-append-drop, length-drop}
 use lib.Seq.{take-all, length-take-le, take-append-le, drop-append-le}
 use Rattle.definitions.specs.Table.{largestDimension}
-use Rattle.definitions.specs.JobLayout.{Section, items, littleEndian, numberAt, itemsAt, section, Layout, layout-fault, andThen, triangle, jobOf}
+use Rattle.definitions.specs.JobLayout.{Section, items, littleEndian, numberAt, itemsAt, section, settingsSection, Layout, layout-fault, andThen, triangle, jobOf}
 use Rattle.definitions.specs.JobText.{jobText, jobOutput}
 use Rattle.definitions.proofs.Triangles.{triangle-small}
-use Rattle.definitions.proofs.JobSections.{length-items, section-wrong, section-whole}
+use Rattle.definitions.proofs.JobSections.{length-items, section-wrong, section-whole, settings-given}
 
--- the bytes of the longest job: its five sections
+-- the bytes of the longest job: its six sections
 abbrev pub longestJob : ℕ
-longestJob = 4 + 8 * largestDimension + 4 + 8 * triangle largestDimension + 4 + 8 * largestDimension + 4 + 8 + 4 + 8
+longestJob = 4 + 8 * largestDimension + 4 + 8 * triangle largestDimension + 4 + 8 * largestDimension + 4 + 8 + 4 + 8 + 4 + 8 * 3
 
 -- a part within the first k bytes
 part-of-first : (k offset size : ℕ) (xs : List ℕ) → offset + size ≤ k → k ≤ length xs → take size (drop offset (take k xs)) ≡ take size (drop offset xs)
@@ -77,6 +77,15 @@ module _ (input : List ℕ) (k : ℕ) (enough : longestJob < k) (more : k < leng
   same-counted count offset fits go go′ same =
       same-section (eqb count) offset (omega arith) (λ c q. let e = eqb-true count c q in omega (arith, e)) go go′ (λ xs q. same xs (sym (eqb-true count (length xs) q)))
 
+  -- bytes are left for the settings, of the first k and of all
+  same-settings : (offset : ℕ) → offset + 4 + 8 * 3 ≤ k → (go go′ : List ℕ → ℕ → Layout)
+      → ((xs : List ℕ) → length xs ≡ 3 → go xs (offset + 4 + 8 * length xs) ≡ go′ xs (offset + 4 + 8 * length xs))
+      → andThen (settingsSection first offset) go ≡ andThen (settingsSection input offset) go′
+  same-settings offset fits go go′ same =
+      ap (λ (s : Section). andThen s go) (settings-given first offset (omega (arith, length-take-le k input (omega arith))))
+      ∙ same-counted 3 offset fits go go′ same
+      ∙ ap (λ (s : Section). andThen s go′) (sym (settings-given input offset (omega arith)))
+
   -- more bytes follow the last section, of the first k and of all
   surplus : (end : ℕ) (l : Layout) → end ≤ longestJob → cond (ltb end (length first)) (layout-fault end) l ≡ cond (ltb end (length input)) (layout-fault end) l
   surplus end l h =
@@ -94,6 +103,7 @@ module _ (input : List ℕ) (k : ℕ) (enough : longestJob < k) (more : k < leng
       same-counted n _ (omega arith) _ _ λ target t.
       same-counted 1 _ (omega arith) _ _ λ radius r.
       same-counted 1 _ (omega arith) _ _ λ budget b.
+      same-settings _ (omega arith) _ _ λ settings s.
       surplus _ _ (omega arith)
 
 -- a buffer of more bytes than the longest job's: what it holds of an input tells the text

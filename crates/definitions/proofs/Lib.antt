@@ -15,6 +15,7 @@ pub mod Tables
 pub mod Passed
 pub mod Answers
 pub mod HandedOn
+pub mod Settings
 pub mod Ratios
 pub mod References
 pub mod Decimal

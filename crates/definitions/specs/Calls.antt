@@ -123,6 +123,11 @@ pub record ListAnswer : Type 0 where
   pub nodes : ℕ
   pub points : List ListPoint
 
+-- how many points there are: none where there is no list
+abbrev pub pointsIn : Answer ListAnswer → ℕ
+pointsIn (found a) = length (a .points)
+pointsIn (refused e) = 0
+
 -- the list, unless the walk ended by 15; 18 if there are more points than places
 unfoldable pub endOfList : ℕ → Walked (List ListPoint) → Answer ListAnswer
 unfolding sorted

@@ -33,12 +33,17 @@ readEntries n mu zero = []
 readEntries n mu (suc j) = readEntries n mu j ++ take j (drop (j * n) mu)
 
 -- the five sections: weights, mu, target, radius, budget
-unfoldable pub jobBytes : Job → List ℕ
+unfoldable pub fiveSections : Job → List ℕ
 unfolding doublesBytes readEntries
-jobBytes j =
+fiveSections j =
     let n = dimension (j .table) in
     doublesBytes (j .table .weights)
     ++ doublesBytes (readEntries n (j .table .mu) n)
     ++ doublesBytes (j .target)
     ++ doublesBytes (j .radius ∷ [])
     ++ sectionBytes (j .budget ∷ [])
+
+-- and the settings
+unfoldable pub jobBytes : Job → List ℕ
+unfolding fiveSections sectionBytes
+jobBytes j = fiveSections j ++ sectionBytes (j .settings .p ∷ j .settings .q ∷ j .settings .places ∷ [])

@@ -6,6 +6,7 @@ use lib.Dec.{leb, ltb, eqb}
 use lib.ListN.{length, getD, take, drop, replicate}
 use lib.Ieee.{Float, binary64, ofBits}
 use Rattle.definitions.specs.Table.{Table, plusZero, largestDimension}
+use Rattle.definitions.specs.Settings.{Settings, defaults}
 
 -- the number in these bytes, little-endian
 unfoldable pub littleEndian : List ℕ → ℕ
@@ -44,6 +45,7 @@ pub record Job : Type 0 where
   pub target : List Float
   pub radius : Float
   pub budget : ℕ
+  pub settings : Settings
 
 -- a job, or the value of refusal 1
 pub data Layout : Type 0 where
@@ -68,16 +70,23 @@ unfoldable pub muRows : ℕ → List Float → ℕ → List Float
 muRows n entries zero = []
 muRows n entries (suc j) = muRows n entries j ++ take j (drop (triangle j) entries) ++ replicate (n - j) plusZero
 
--- the five sections, weights, mu, target, radius and budget, and nothing after them
+-- the settings at an offset: where the bytes end there, the default ones; else a section of three
+unfoldable pub settingsSection : List ℕ → ℕ → Section
+unfolding section
+settingsSection input offset =
+    cond (ltb offset (length input)) (section input (eqb 3) offset) (items (defaults .p ∷ defaults .q ∷ defaults .places ∷ []) offset)
+
+-- the sections of weights, mu, target, radius, budget and, if bytes are left, settings, and nothing after them
 unfoldable pub jobOf : List ℕ → Layout
-unfolding section andThen muRows ofBits
+unfolding section settingsSection andThen muRows ofBits
 jobOf input =
     andThen (section input (λ count. leb count largestDimension) 0) λ weights muAt.
     let n = length weights in
     andThen (section input (eqb (triangle n)) muAt) λ mu targetAt.
     andThen (section input (eqb n) targetAt) λ target radiusAt.
     andThen (section input (eqb 1) radiusAt) λ radius budgetAt.
-    andThen (section input (eqb 1) budgetAt) λ budget end.
+    andThen (section input (eqb 1) budgetAt) λ budget settingsAt.
+    andThen (settingsSection input settingsAt) λ settings end.
     cond (ltb end (length input)) (layout-fault end)
     (job
     (record {
@@ -85,4 +94,5 @@ jobOf input =
       target = doubles target;
       radius = ofBits binary64 (getD radius 0 0);
       budget = getD budget 0 0;
+      settings = record { p = getD settings 0 0; q = getD settings 1 0; places = getD settings 2 0 };
     }))

@@ -4,14 +4,16 @@ use Prim.Native.Char.{code}
 use Prim.Native.String.{String, [] as empty, _∷_ as _then_}
 use mathlib.Core.Bool.{Bool, true, false, cond}
 use mathlib.Core.List.{List, [], _∷_, _++_}
-use lib.Dec.{leb, ltb}
+use lib.Dec.{leb, ltb, eqb}
 use lib.ListN.{length, replicate}
 use lib.IntN.{ℤ, pos, negsuc}
 use lib.Ieee.{Float, binary64, toBits}
 use Rattle.definitions.specs.Table.{dimension, plusZero}
 use Rattle.definitions.specs.Listing.{ListPoint}
 use Rattle.definitions.specs.Refusals.{jobLayout}
+use Rattle.definitions.specs.Checks.{Verdict, pass, refuse}
 use Rattle.definitions.specs.Calls.{Answer, found, refused, NearestPoint, ListAnswer, nearest, list}
+use Rattle.definitions.specs.Settings.{settingsCheck}
 use Rattle.definitions.specs.Ratio.{Ratio, holds, fails, «open», none, listRatio}
 use Rattle.definitions.specs.JobLayout.{Job, Layout, job, layout-fault, jobOf}
 
@@ -66,7 +68,12 @@ pointText (z ∷ zs) = text " " ++ signedDecimal z ++ pointText zs
 -- a refusal's group by its number
 unfoldable pub group : ℕ → List ℕ
 unfolding text
-group number = cond (leb number 1) (text "layout") (cond (leb number 5) (text "table") (cond (leb number 14) (text "call") (text "search")))
+group number =
+    cond (leb number 1) (text "layout")
+    (cond (leb number 5) (text "table")
+    (cond (leb number 14) (text "call")
+    (cond (eqb number 21) (text "layout")
+    (text "search"))))
 
 -- the line of a refusal: the word of what was refused, the number and its group
 unfoldable pub refusalLine : List ℕ → ℕ → List ℕ
@@ -106,24 +113,28 @@ ratioLine r = text "ratio " ++ text (ratioWord r) ++ newline
 
 -- ---- the job
 
--- the places that the job lends to its list
-abbrev pub jobPlaces : ℕ
-jobPlaces = 256
-
 abbrev pub jobNearest : Job → Answer NearestPoint
 jobNearest j = nearest (j .table) (j .target) (replicate (dimension (j .table)) (pos 0)) (j .radius) (j .budget)
 
 abbrev pub jobList : Job → Answer ListAnswer
-jobList j = list (j .table) (j .target) (replicate jobPlaces plusZero) (replicate (dimension (j .table) * jobPlaces) (pos 0)) (j .radius) (j .budget)
+jobList j =
+    let places = j .settings .places in
+    list (j .table) (j .target) (replicate places plusZero) (replicate (dimension (j .table) * places) (pos 0)) (j .radius) (j .budget)
 
 abbrev pub jobRatio : Job → Ratio
-jobRatio j = listRatio (jobList j) (j .radius)
+jobRatio j = listRatio (j .settings .p) (j .settings .q) (jobList j) (j .radius)
 
--- the lines of nearest, of the list and of the ratio; bytes that are no job give one line alone
-unfoldable pub jobText : Layout → List ℕ
+-- by the check of the settings: the lines of nearest, of the list and of the ratio, or the refusal alone
+unfoldable pub jobLines : Verdict → Job → List ℕ
 unfolding nearest list listRatio nearestLine listLines ratioLine refusalLine
+jobLines (refuse e) j = refusalLine (text "job") (e .number)
+jobLines pass j = nearestLine (jobNearest j) ++ listLines (jobList j) ++ ratioLine (jobRatio j)
+
+-- bytes that are no job give one line alone
+unfoldable pub jobText : Layout → List ℕ
+unfolding jobLines settingsCheck refusalLine
 jobText (layout-fault offset) = refusalLine (text "job") (jobLayout offset .number)
-jobText (job j) = nearestLine (jobNearest j) ++ listLines (jobList j) ++ ratioLine (jobRatio j)
+jobText (job j) = jobLines (settingsCheck (j .settings)) j
 
 -- what the program writes for what it reads
 unfoldable pub jobOutput : List ℕ → List ℕ

@@ -1,10 +1,13 @@
 -- The verdict on a list, whether its first point stands out: docs/SPECIFICATION.md, "The ratio". Definitions only.
-use mathlib.Core.Bool.{false, cond}
+use Prim.Native.Nat.{ℕ}
+use mathlib.Core.Bool.{Bool, _&&_, cond}
 use mathlib.Core.List.{List, [], _∷_, map}
 use lib.IntN.{pos}
-use lib.Ieee.{Float, binary64, fin, mul, le}
+use lib.Ieee.{Float, binary64, mul, ofInt, le}
+use lib.Ieee.Scale.{finite}
 use Rattle.definitions.specs.Listing.{ListPoint}
-use Rattle.definitions.specs.Calls.{Answer, found, refused, ListAnswer}
+use Rattle.definitions.specs.Settings.{factorsCheck}
+use Rattle.definitions.specs.Calls.{Answer, found, refused, after, ListAnswer}
 
 pub data Ratio : Type 0 where
   holds : Ratio
@@ -12,21 +15,31 @@ pub data Ratio : Type 0 where
   «open» : Ratio
   none : Ratio
 
--- 3·d, rounded once
-unfoldable pub threeTimes : Float → Float
-unfolding mul
-threeTimes d = mul binary64 (fin false 3 (pos 0)) d
+-- k·d, rounded once
+unfoldable pub times : ℕ → Float → Float
+unfolding mul ofInt
+times k d = mul binary64 (ofInt binary64 (pos k)) d
 
--- by the distances listed at R, in their order: none without a point; one point alone holds if R ≥ 3·d1 and is else open;
--- with more the verdict holds if d2 ≥ 3·d1, and else fails
-unfoldable pub ratio : List Float → Float → Ratio
-unfolding threeTimes le
-ratio [] R = none
-ratio (d1 ∷ []) R = cond (le (threeTimes d1) R) holds «open»
-ratio (d1 ∷ d2 ∷ more) R = cond (le (threeTimes d1) d2) holds fails
+-- the test of a first distance against another one, or against R: q·d2 ≥ p·d1, and p·d1 does not overflow
+unfoldable pub met : ℕ → ℕ → Float → Float → Bool
+unfolding times le
+met p q d1 d2 = finite (times p d1) && le (times p d1) (times q d2)
+
+-- by the distances listed at R, in their order: none without a point; one point alone holds if R meets the test, and is else open;
+-- with more the verdict holds if d2 meets it, and else fails
+unfoldable pub ratio : ℕ → ℕ → List Float → Float → Ratio
+unfolding met
+ratio p q [] R = none
+ratio p q (d1 ∷ []) R = cond (met p q d1 R) holds «open»
+ratio p q (d1 ∷ d2 ∷ more) R = cond (met p q d1 d2) holds fails
 
 -- of a call `list` at R: without a list the verdict is none
-unfoldable pub listRatio : Answer ListAnswer → Float → Ratio
+unfoldable pub listRatio : ℕ → ℕ → Answer ListAnswer → Float → Ratio
 unfolding ratio
-listRatio (found a) R = ratio (map (λ (p : ListPoint). p .distance) (a .points)) R
-listRatio (refused e) R = none
+listRatio p q (found a) R = ratio p q (map (λ (point : ListPoint). point .distance) (a .points)) R
+listRatio p q (refused e) R = none
+
+-- the call `ratio`: 21, then the verdict
+unfoldable pub ratioCall : ℕ → ℕ → List Float → Float → Answer Ratio
+unfolding after factorsCheck ratio
+ratioCall p q distances R = after (factorsCheck p q) (found (ratio p q distances R))

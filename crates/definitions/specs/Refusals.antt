@@ -91,3 +91,7 @@ referenceIndex = record { number = 19; values = [] }
 -- 20 (the first index)
 abbrev pub changedRange : ℕ → Refusal
 changedRange index = record { number = 20; values = whole index ∷ [] }
+
+-- 21 (the first index: 0 of p, 1 of q, 2 of the places)
+abbrev pub settingRange : ℕ → Refusal
+settingRange index = record { number = 21; values = whole index ∷ [] }

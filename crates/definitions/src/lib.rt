@@ -14,3 +14,16 @@ pub const LARGEST_LIST_POINTS: usize = LARGEST_LIST * LARGEST_DIMENSION;
 
 // 2^60: `largestBudget`.
 pub const LARGEST_BUDGET: u64 = 1152921504606846976;
+
+// The largest of the ratio's factors: `largestFactor`.
+pub const LARGEST_FACTOR: u64 = 1000;
+
+// The most places of a job's list: `largestPlaces`.
+pub const LARGEST_PLACES: usize = 256;
+
+// The settings of a job that gives none: `defaults`.
+pub const DEFAULT_P: u64 = 3;
+
+pub const DEFAULT_Q: u64 = 1;
+
+pub const DEFAULT_PLACES: u64 = 256;

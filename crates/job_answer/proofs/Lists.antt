@@ -9,14 +9,14 @@ use lib.Seq.{take-at, drop-append-add}
 use lib.IntN.{ℤ}
 use lib.Ieee.{Float, nan}
 use Rattle.definitions.specs.Listing.{ListPoint}
-use Rattle.definitions.specs.Calls.{Answer, found, refused, coordinates, listDistances, listPoints}
+use Rattle.definitions.specs.Calls.{Answer, found, refused, pointsIn, coordinates, listDistances, listPoints}
 use Rattle.definitions.specs.Calls as C
 use Rattle.definitions.specs.Refusals.{Refusal}
 use Rattle.refusals.specs.Numbers.{numbered}
 use Rattle.definitions.specs.Ratio.{Ratio, ratio, listRatio}
 use Rattle.definitions.specs.JobText.{text, refusalLine, listLines, ratioLine}
 use Rattle.definitions.proofs.ListedOrder.{Listed}
-use Rattle.definitions.proofs.Ratios.{ratio-nothing, list-ratio-found, list-ratio-refused}
+use Rattle.definitions.proofs.Ratios.{ratio-of-written}
 use Rattle.lists.specs.All.{All, more}
 use Rattle.definitions.specs.Rows.{row, rows}
 use Rattle.listing.specs.declared.ListAnswer.{ListAnswer}
@@ -66,16 +66,11 @@ module _ (ds : List Float) (zs : List ℤ) where
   lines n (Refused e) (found a) same all = let z : _≡_ {A = ℕ} 0 1 = cc in absurd (omega arith)
   lines n (Refused e) (refused d) same all = let equal : numbered e ≡ d = cc in ap (λ (r : Refusal). refusalLine (text "list") (r .number)) equal
 
-  -- the verdict on the distances that the call left is that on the list
-  verdict-said : (R : Float) (answer : ListAnswer) (L : Answer C.ListAnswer) → listAnswer answer ≡ countsOf L → ratio (take (pointsOf answer) (listDistances L ds)) R ≡ listRatio L R
-  unfolding listDistances
-  verdict-said R (Found f) (found a) same =
-      let count : f .points ≡ length (a .points) = ap (λ (x : Answer Counts). countsIn x .points) same in
-      let new = map (λ (p : ListPoint). p .distance) (a .points) in
-      ap (λ (xs : List Float). ratio xs R) (take-at new (drop (length new) ds) (f .points) (length-map (a .points) (λ (p : ListPoint). p .distance) ∙ sym count)) ∙ sym (list-ratio-found R a)
-  verdict-said R (Found f) (refused e) same = let z : _≡_ {A = ℕ} 0 1 = cc in absurd (omega arith)
-  verdict-said R (Refused e) (found a) same = let z : _≡_ {A = ℕ} 0 1 = cc in absurd (omega arith)
-  verdict-said R (Refused e) (refused d) same = ratio-nothing R ∙ sym (list-ratio-refused R d)
+  count-said : (answer : ListAnswer) (L : Answer C.ListAnswer) → listAnswer answer ≡ countsOf L → pointsOf answer ≡ pointsIn L
+  count-said (Found f) (found a) same = ap (λ (x : Answer Counts). countsIn x .points) same
+  count-said (Found f) (refused e) same = let z : _≡_ {A = ℕ} 0 1 = cc in absurd (omega arith)
+  count-said (Refused e) (found a) same = let z : _≡_ {A = ℕ} 0 1 = cc in absurd (omega arith)
+  count-said (Refused e) (refused d) same = refl
 
   few : (answer : ListAnswer) (L : Answer C.ListAnswer) → listAnswer answer ≡ countsOf L → length (listDistances L ds) ≡ length ds → pointsOf answer ≤ length ds
   unfolding listDistances
@@ -94,11 +89,12 @@ module _ {L : Answer C.ListAnswer} {ds : List Float} {zs : List ℤ} {answer : L
   pub points-few : length ds′ ≡ length ds → pointsOf answer ≤ length ds
   points-few kept = few ds zs answer L (a .tells) (sym (ap length (a .writes-distances)) ∙ kept)
 
-  -- the lines of the list and the ratio's, the slice lent on holding what the call left
-  pub part-text : (R : Float) {n k : ℕ} {zs″ : List ℤ} {said : Ratio} → ((b : C.ListAnswer) → L ≡ found b → All (Listed n) (b .points)) → zs″ ≡ zs′ → k ≡ pointsOf answer → said ≡ ratio (take k ds′) R → listText answer n ds′ zs″ ++ ratioLine said ≡ listLines L ++ ratioLine (listRatio L R)
-  part-text R {n} {k} {zs″} {said} all same-points count verdict =
+  -- the lines of the list and the ratio's, the slices lent on holding what the call left
+  pub part-text : (p q : ℕ) (R : Float) {n : ℕ} {ds″ first : List Float} {zs″ : List ℤ} {said : Ratio} → ((b : C.ListAnswer) → L ≡ found b → All (Listed n) (b .points)) → ds″ ≡ ds′ → zs″ ≡ zs′ → first ≡ take (pointsOf answer) ds′ → said ≡ ratio p q first R → listText answer n ds″ zs″ ++ ratioLine said ≡ listLines L ++ ratioLine (listRatio p q L R)
+  part-text p q R {n} {ds″} {first} {zs″} {said} all same-distances same-points those verdict =
       let l = lines ds zs n answer L (a .tells) all in
-      let r = verdict-said ds zs R answer L (a .tells) in
+      let k = count-said ds zs answer L (a .tells) in
+      let r = ratio-of-written p q R L ds in
       let d = a .writes-distances in
-      let p = a .writes-points in
+      let w = a .writes-points in
       cc

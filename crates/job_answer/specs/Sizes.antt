@@ -1,7 +1,7 @@
 -- The most bytes of each part of a job's text. Definitions only.
 use Prim.Native.Nat.{ℕ, _+_, _*_}
 use Rattle.definitions.specs.Table.{largestDimension}
-use Rattle.definitions.specs.JobText.{jobPlaces}
+use Rattle.definitions.specs.Settings.{largestPlaces}
 use Rattle.writing.specs.Sizes.{decimalSize, hexadecimalSize, pointSize}
 
 -- "nearest ", the count, a blank, the distance, the point, the line's end
@@ -22,7 +22,7 @@ ratioSize = 12
 
 -- the list's lines and the ratio's
 abbrev pub listPartSize : ℕ
-listPartSize = listSize jobPlaces + ratioSize
+listPartSize = listSize largestPlaces + ratioSize
 
 -- no text is longer
 abbrev pub outputSize : ℕ

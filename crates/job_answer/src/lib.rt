@@ -12,17 +12,20 @@ ghost use Rattle.reading.specs.View.{jobRead, layoutRead};
 ghost use Rattle.writing.specs.Written.{Written};
 ghost use Rattle.job_answer.specs.Sizes.{nearestSize, listedSize, listSize, ratioSize, listPartSize, outputSize};
 ghost use Rattle.job_answer.specs.Texts.{listedLine, listText, pointsOf, listPart};
-ghost use Rattle.job_answer.specs.Room.{Room, LinesRoom, JobRoom};
+ghost use Rattle.job_answer.specs.Room.{Room, LinesRoom, JobRoom, ListRoom};
 ghost use Rattle.job_answer.specs.Answer.{JobAnswered, BufferRead, InputAnswered};
 use definitions::LARGEST_DIMENSION;
+use definitions::LARGEST_PLACES;
 use enumerate::NearestAnswer;
 use enumerate::nearest;
 use listing::ListAnswer;
 use listing::list;
 use ratio::Ratio;
+use ratio::settings::settings_check;
 use ratio::verdict;
 use reading::Job;
 use reading::read;
+use refusals::Verdict;
 use refusals::numbers;
 use writing::COORDINATE_SIZE;
 use writing::DECIMAL_SIZE;
@@ -32,9 +35,6 @@ use writing::hexadecimal;
 use writing::point;
 use writing::put;
 use writing::refusal_line;
-
-// The places that a job lends its list: `jobPlaces`.
-const PLACES: usize = 256;
 
 // The most bytes of a job's nearest line: `nearestSize`.
 const NEAREST_SIZE: usize = 8
@@ -48,7 +48,7 @@ const NEAREST_SIZE: usize = 8
 const LISTED_SIZE: usize = HEXADECIMAL_SIZE + COORDINATE_SIZE * LARGEST_DIMENSION + 1;
 
 // Of the list's lines: `listSize`.
-const LIST_SIZE: usize = 5 + DECIMAL_SIZE + 1 + DECIMAL_SIZE + 1 + LISTED_SIZE * PLACES;
+const LIST_SIZE: usize = 5 + DECIMAL_SIZE + 1 + DECIMAL_SIZE + 1 + LISTED_SIZE * LARGEST_PLACES;
 
 // Of the ratio's line: `ratioSize`.
 const RATIO_SIZE: usize = 12;
@@ -191,12 +191,13 @@ fn nearest_part(out: &mut [u8], job: Job) -> usize
 
 // Writes the list's lines of a job and the ratio's.
 fn list_part(out: &mut [u8], at: usize, job: Job) -> usize
-    requires { ⌜ JobRoom (now out) at listPartSize job ⌝ }
+    requires { ⌜ ListRoom (now out) at listPartSize job ⌝ }
     ensures { λ r. ⌜ Written (atEntry out) at (listPart (jobRead job)) listPartSize r (atExit out) ⌝ }
 {
     let n = job.n;
     let size = n * n;
-    let places = n * PLACES;
+    let places = job.settings.places as usize;
+    let coordinates = n * places;
     let weights = job.weights;
     let mu = job.mu;
     let target = job.target;
@@ -206,13 +207,26 @@ fn list_part(out: &mut [u8], at: usize, job: Job) -> usize
         &weights[..n],
         &mu[..size],
         &target[..n],
-        &mut distances,
-        &mut points[..places],
+        &mut distances[..places],
+        &mut points[..coordinates],
         job.radius,
         job.budget,
     );
-    let after_list = list_lines(out, at, answer, n, &distances, &points[..places]);
-    let ratio = verdict(&distances, points_of(answer), job.radius);
+    let after_list = list_lines(
+        out,
+        at,
+        answer,
+        n,
+        &distances[..places],
+        &points[..coordinates],
+    );
+    let found = points_of(answer);
+    let ratio = verdict(
+        &distances[..found],
+        job.radius,
+        job.settings.p,
+        job.settings.q,
+    );
     ratio_line(out, after_list, ratio)
 }
 
@@ -224,8 +238,16 @@ fn job_text(out: &mut [u8], job: Job) -> usize
     if !job.whole {
         return refusal_line(out, 0, b"job", 1);
     }
-    let after_nearest = nearest_part(out, job);
-    list_part(out, after_nearest, job)
+    match settings_check(job.settings.p, job.settings.q, job.settings.places) {
+        Verdict::Refuse(e) => {
+            let values = numbers(e);
+            return refusal_line(out, 0, b"job", values.number as u64);
+        }
+        Verdict::Pass => {
+            let after_nearest = nearest_part(out, job);
+            return list_part(out, after_nearest, job);
+        }
+    }
 }
 
 // Answers a job: reads its bytes and writes its text over the first places of `out`. An output that is too short for the

@@ -1,35 +1,55 @@
-// The verdict on a list, by the distances and the radius alone. Each line of the output has a case's name and the verdict.
-// Where a case parts the specification from another reading, its comment names that. The last cases are of distances that
-// no list has: the verdict is that of the definition there too.
+// The verdict on a list by the distances, the radius and the factors alone, and the check of the settings. Each line of the
+// output has a case's name and the verdict, or the refusal's number with its index in brackets. Where a case parts the
+// specification from another reading, its comment names that. Some cases are of distances that no list has: the verdict is
+// that of the definition there too.
 //
 // The expected output was worked out by hand, the products of doubles as Rust and Python compute them. The original has no
 // such call.
+use printing::newline;
 use printing::values::LARGEST;
 use printing::values::SMALLEST;
 use printing::values::infinity;
 use printing::values::nan;
+use printing::verdict;
 use printing::word;
 use ratio::Ratio;
-use ratio::verdict;
+use ratio::RatioAnswer;
+use ratio::ratio_of;
+use ratio::settings::settings_check;
+use refusals::Verdict;
 
-fn say(name: &[u8], said: Ratio) {
-    word(name);
+fn say_ratio(said: Ratio) {
     match said {
-        Ratio::Holds => word(b" holds\n"),
-        Ratio::Fails => word(b" fails\n"),
-        Ratio::Open => word(b" open\n"),
-        Ratio::None => word(b" none\n"),
+        Ratio::Holds => word(b" holds"),
+        Ratio::Fails => word(b" fails"),
+        Ratio::Open => word(b" open"),
+        Ratio::None => word(b" none"),
     }
+}
+
+fn say(name: &[u8], answer: RatioAnswer) {
+    word(name);
+    match answer {
+        RatioAnswer::Found(said) => say_ratio(said),
+        RatioAnswer::Refused(e) => verdict(Verdict::Refuse(e)),
+    }
+    newline();
 }
 
 fn alone(name: &[u8], d1: f64, radius: f64) {
     let distances = [d1];
-    say(name, verdict(&distances, 1, radius));
+    say(name, ratio_of(&distances, radius, 3, 1));
 }
 
 fn two(name: &[u8], d1: f64, d2: f64, radius: f64) {
     let distances = [d1, d2];
-    say(name, verdict(&distances, 2, radius));
+    say(name, ratio_of(&distances, radius, 3, 1));
+}
+
+// Two distances by these factors; the radius is a NaN, which must not be read.
+fn by(name: &[u8], p: u64, q: u64, d1: f64, d2: f64) {
+    let distances = [d1, d2];
+    say(name, ratio_of(&distances, nan(), p, q));
 }
 
 // A lone point that always holds; a test that is strict, or without the 3, or of d1 in place of the radius.
@@ -52,11 +72,13 @@ fn rounded_once() {
     alone(b"smallest, below:", SMALLEST, 1e-323);
 }
 
-// 3·d1 is infinite: no finite radius and no finite distance reaches it.
+// 3·d1 is infinite: nothing reaches it, not even what is infinite itself.
 fn overflow() {
     alone(b"largest without:", 5.992310449541052e307, LARGEST);
     alone(b"overflow:", 5.992310449541053e307, LARGEST);
     two(b"overflow, two:", LARGEST, LARGEST, LARGEST);
+    alone(b"infinite radius:", LARGEST, infinity());
+    two(b"both infinite:", infinity(), infinity(), 1.0);
 }
 
 // 0 ≥ 3·0, whatever comes after.
@@ -81,27 +103,79 @@ fn two_or_more() {
     );
     two(b"equal:", 0.25, 0.25, 0.25);
     let three = [1.0, 2.0, 3.0];
-    say(b"third at three times d1:", verdict(&three, 3, 4.0));
-}
-
-// Places after the count are not read.
-fn places() {
-    let distances = [1.0, 2.0];
-    say(b"none of two:", verdict(&distances, 0, 4.0));
-    say(b"one of two:", verdict(&distances, 1, 4.0));
+    say(b"third at three times d1:", ratio_of(&three, 4.0, 3, 1));
     let none = [0.0; 0];
-    say(b"no place:", verdict(&none, 0, 4.0));
+    say(b"no distance:", ratio_of(&none, 4.0, 3, 1));
 }
 
-// A NaN passes no test; an infinite radius is above all.
+// A NaN passes no test.
 fn beyond_lists() {
     alone(b"nan:", nan(), 1.0);
     alone(b"nan radius:", 0.0, nan());
     two(b"nan second:", 1.0, nan(), 9.0);
-    alone(b"infinite radius:", LARGEST, infinity());
-    two(b"both infinite:", infinity(), infinity(), 1.0);
     two(b"out of order:", 2.0, 1.0, 9.0);
     two(b"negative:", -1.0, -2.0, 9.0);
+}
+
+// Each product is rounded by itself. Other readings say the opposite: d2 ≥ (p/q)·d1 of the first, d2 ≥ p·d1/q of the second,
+// d2/d1 ≥ p/q of the third, and of the fourth that inf ≥ inf.
+fn products() {
+    by(
+        b"d2 below (p/q) d1:",
+        5,
+        3,
+        1.6832742417494195,
+        2.8054570695823657,
+    );
+    by(
+        b"d2 at p d1/q:",
+        5,
+        3,
+        1.2939915416849752,
+        2.1566525694749585,
+    );
+    by(
+        b"d2/d1 below p/q:",
+        3,
+        2,
+        1.343697911347522,
+        2.015546867021283,
+    );
+    by(b"both overflow:", 5, 5, LARGEST, LARGEST);
+    by(b"only q d2 overflows:", 1000, 1000, 1.0, LARGEST);
+    by(b"equal at p = q:", 1000, 1000, 0.25, 0.25);
+    by(b"equal at q = p - 1:", 1000, 999, 0.25, 0.25);
+    by(b"p and q exchanged:", 3, 2, 0.25, 0.3);
+}
+
+// 21 of the call: index 0 where p is out of range or below q, whatever q is, then 1.
+fn factors() {
+    by(b"p 1, q 1:", 1, 1, 0.25, 0.25);
+    by(b"p 0:", 0, 0, 0.25, 0.25);
+    by(b"p 1001:", 1001, 1, 0.25, 0.25);
+    by(b"p 2^64-1:", u64::MAX, 1, 0.25, 0.25);
+    by(b"p below q:", 2, 3, 0.25, 0.25);
+    by(b"q 1001 above p:", 1000, 1001, 0.25, 0.25);
+    by(b"q 2000 above p:", 5, 2000, 0.25, 0.25);
+    by(b"q 0:", 5, 0, 0.25, 0.25);
+    by(b"both 1001:", 1001, 1001, 0.25, 0.25);
+}
+
+fn settings(name: &[u8], p: u64, q: u64, places: u64) {
+    word(name);
+    verdict(settings_check(p, q, places));
+    newline();
+}
+
+// 21 of a job: the factors go before the places.
+fn places() {
+    settings(b"default:", 3, 1, 256);
+    settings(b"one place:", 3, 1, 1);
+    settings(b"no place:", 3, 1, 0);
+    settings(b"257 places:", 3, 1, 257);
+    settings(b"2^64-1 places:", 3, 1, u64::MAX);
+    settings(b"q 0, no place:", 3, 0, 0);
+    settings(b"p 0, no place:", 0, 0, 0);
 }
 
 fn main() {
@@ -110,6 +184,8 @@ fn main() {
     overflow();
     zeros();
     two_or_more();
-    places();
     beyond_lists();
+    products();
+    factors();
+    places();
 }

@@ -1,22 +1,23 @@
--- The five sections one after another are the job's layout. Assumes nothing.
+-- The sections one after another are the job's layout. Assumes nothing.
 use mathlib.Core.Path.{_≡_, refl, ap, sym, subst, _∙_}
 use mathlib.Core.Bool.{Bool, true, false, cond, _&&_}
-use mathlib.Core.List.{List}
-use Prim.Native.Nat.{ℕ, _+_, _*_, _≤_}
+use mathlib.Core.List.{List, [], _∷_}
+use Prim.Native.Nat.{ℕ, _+_, _*_, _≤_, _<_}
 use native.Mathlib.Omega.{arith}
 use lib.Dec.{leb, ltb, eqb, leb·zero}
 use lib.ListN.{length, getD}
 use lib.Ieee.{binary64, ofBits}
-use borrow.Author.Tests.{ltb-true, ltb-false, leb-true, leb-false, eqb-true, eq-eqb, ne-eqb}
+use borrow.Author.Tests.{ltb-true, ltb-false, lt-ltb, le-ltb, leb-true, leb-false, eqb-true, eq-eqb, ne-eqb}
 use Rattle.definitions.specs.Table.{largestDimension}
-use Rattle.definitions.specs.JobLayout.{items, section-fault, numberAt, itemsAt, section, andThen, doubles, triangle, muRows, job, layout-fault}
+use Rattle.definitions.specs.Settings.{Settings, defaults}
+use Rattle.definitions.specs.JobLayout.{items, section-fault, numberAt, itemsAt, section, settingsSection, andThen, doubles, triangle, muRows, job, layout-fault}
 use Rattle.definitions.specs.JobLayout as D
 use Rattle.reading.specs.declared.Section.{Section}
 use Rattle.reading.specs.declared.Section.the-variants.{Items, Fault}
 use Rattle.reading.specs.declared.Layout.{Layout}
 use Rattle.reading.specs.declared.Layout.the-variants as L
-use Rattle.reading.specs.View.{within, sectionOf, nextSection, layoutByLast, LayoutIs, jobAt, muAt, targetAt, radiusAt, budgetAt, endAt, sectionEnd}
-use Rattle.definitions.proofs.JobSections.{length-items, section-short, section-wrong, section-cut, section-whole}
+use Rattle.reading.specs.View.{within, sectionOf, nextSection, nextSettings, layoutByLast, JobBytes, LayoutIs, jobAt, muAt, targetAt, radiusAt, budgetAt, settingsAt, settingsIn, sectionEnd}
+use Rattle.definitions.proofs.JobSections.{length-items, section-short, section-wrong, section-cut, section-whole, settings-given, settings-default}
 
 module _ (input : List ℕ) (right : ℕ → Bool) (offset : ℕ) where
   -- a whole section as the code knows it
@@ -91,13 +92,29 @@ module _ (input : List ℕ) where
 
   -- the layout by its first section
   abbrev pub layoutFrom : Section → Layout
-  layoutFrom (Items n end) = layoutByLast input n (nextSection input 1 (nextSection input 1 (nextSection input n (nextSection input (triangle n) (Items n end)))))
+  layoutFrom (Items n end) = layoutByLast input n (nextSettings input (nextSection input 1 (nextSection input 1 (nextSection input n (nextSection input (triangle n) (Items n end))))))
   layoutFrom (Fault v) = L.Fault v
+
+  abbrev settingsOf : List ℕ → Settings
+  settingsOf xs = record { p = getD xs 0 0; q = getD xs 1 0; places = getD xs 2 0 }
+
+  pub settings-read : (at : ℕ) → at < length input → {p q places : ℕ} → p ≡ numberAt input (at + 4) 8 → q ≡ numberAt input (at + 12) 8 → places ≡ numberAt input (at + 20) 8 → record { p = p; q = q; places = places } ≡ settingsIn input at
+  settings-read at more {p} {q} {places} a b c = simp (lt-ltb at (length input) more) (λ i. record { p = a i; q = b i; places = c i })
+
+  given-settings : (at : ℕ) → at < length input → settingsIn input at ≡ settingsOf (itemsAt input (at + 4) 3)
+  unfolding itemsAt
+  given-settings at more =
+      let second : at + 12 ≡ at + 4 + 8 = omega arith in
+      let third : at + 20 ≡ at + 4 + 8 + 8 = omega arith in
+      sym (settings-read at more refl (ap (λ (o : ℕ). numberAt input o 8) (sym second)) (ap (λ (o : ℕ). numberAt input o 8) (sym third)))
+
+  pub default-settings : (at : ℕ) → length input ≤ at → settingsIn input at ≡ defaults
+  default-settings at all = simp (le-ltb at (length input) all)
 
   -- what follows each section, by the items read so far: the specification's definition, taken apart
   module _ (n : ℕ) (weights : List ℕ) where
-    abbrev afterBudget : List ℕ → List ℕ → List ℕ → List ℕ → ℕ → D.Layout
-    afterBudget mu target radius budget end =
+    abbrev afterSettings : List ℕ → List ℕ → List ℕ → List ℕ → List ℕ → ℕ → D.Layout
+    afterSettings mu target radius budget settings end =
         cond (ltb end (length input)) (layout-fault end)
         (job
         (record {
@@ -105,7 +122,11 @@ module _ (input : List ℕ) where
           target = doubles target;
           radius = ofBits binary64 (getD radius 0 0);
           budget = getD budget 0 0;
+          settings = settingsOf settings;
         }))
+
+    abbrev afterBudget : List ℕ → List ℕ → List ℕ → List ℕ → ℕ → D.Layout
+    afterBudget mu target radius budget at = andThen (settingsSection input at) (afterSettings mu target radius budget)
 
     abbrev afterRadius : List ℕ → List ℕ → List ℕ → ℕ → D.Layout
     afterRadius mu target radius at = andThen (section input (eqb 1) at) (afterBudget mu target radius)
@@ -132,22 +153,48 @@ module _ (input : List ℕ) where
     abbrev radii : List ℕ
     radii = itemsAt input (radiusAt n + 4) 1
 
-    last : endAt n ≤ length input → LayoutIs input (afterBudget n ws mus targets radii (itemsAt input (budgetAt n + 4) 1) (endAt n)) (layoutByLast input n (Items 1 (endAt n)))
+    abbrev budgets : List ℕ
+    budgets = itemsAt input (budgetAt n + 4) 1
+
+    last : (settings : List ℕ) (end : ℕ) → settingsIn input (settingsAt n) ≡ settingsOf settings → end ≤ length input → (length input ≡ end → JobBytes input n)
+        → LayoutIs input (afterSettings n ws mus targets radii budgets settings end) (layoutByLast input n (Items 3 end))
     unfolding itemsAt
-    last fits = by (ltb (endAt n) (length input)) (λ q. let all = ltb-false (endAt n) (length input) q in omega (arith, all, fits))
+    last settings end same fits bytes = by (ltb end (length input)) (λ q. let all = ltb-false end (length input) q in omega (arith, all, fits))
       where
+        read : Settings → D.Job
+        read s = record { table = jobAt input n .table; target = jobAt input n .target; radius = jobAt input n .radius; budget = jobAt input n .budget; settings = s }
+
         by : (b : Bool)
-            → (b ≡ false → length input ≡ endAt n)
-            → LayoutIs input (cond b (layout-fault (endAt n)) (job (jobAt input n))) (cond b (L.Fault (endAt n)) (L.Whole n))
+            → (b ≡ false → length input ≡ end)
+            → LayoutIs input (cond b (layout-fault end) (job (read (settingsOf settings)))) (cond b (L.Fault end) (L.Whole n))
         by true all = record { means = refl; size = tt }
-        by false all = record { means = refl; size = record { small = few; size = all refl } }
+        by false all = record { means = ap (λ (s : Settings). job (read s)) same; size = bytes (all refl) }
+
+    -- the settings, given or not
+    settings-good : settingsAt n ≤ length input → LayoutIs input (afterBudget n ws mus targets radii budgets (settingsAt n)) (layoutByLast input n (nextSettings input (Items 1 (settingsAt n))))
+    unfolding andThen
+    settings-good fits = by (ltb (settingsAt n) (length input)) refl
+      where
+        Good : D.Section → Type 0
+        Good s = LayoutIs input (andThen s (afterSettings n ws mus targets radii budgets)) (layoutByLast input n (sectionOf s))
+
+        by : (b : Bool) → ltb (settingsAt n) (length input) ≡ b → Good (settingsSection input (settingsAt n))
+        by true q =
+            let more = ltb-true (settingsAt n) (length input) q in
+            subst Good (sym (settings-given input (settingsAt n) more))
+            (step 3 (settingsAt n) 1 (afterSettings n ws mus targets radii budgets) (layoutByLast input n) (λ v. record { means = refl; size = tt }) λ whole.
+            last (itemsAt input (settingsAt n + 4) 3) (sectionEnd (settingsAt n) 3) (given-settings (settingsAt n) more) whole (λ e. record { small = few; fits = fits; settings = λ _. whole }))
+        by false q =
+            let all = ltb-false (settingsAt n) (length input) q in
+            subst Good (sym (settings-default input (settingsAt n) all))
+            (last (defaults .p ∷ defaults .q ∷ defaults .places ∷ []) (settingsAt n) (default-settings (settingsAt n) all) fits (λ e. record { small = few; fits = fits; settings = λ less. absurd (omega (arith, less, all)) }))
 
     rest-good : LayoutIs input (afterWeights n ws (muAt n)) (layoutFrom (Items n (muAt n)))
     rest-good =
-        step (triangle n) (muAt n) n (afterMu n ws) (λ s. layoutByLast input n (nextSection input 1 (nextSection input 1 (nextSection input n s)))) (λ v. record { means = refl; size = tt }) λ _.
-        step n (targetAt n) (triangle n) (afterTarget n ws mus) (λ s. layoutByLast input n (nextSection input 1 (nextSection input 1 s))) (λ v. record { means = refl; size = tt }) λ _.
-        step 1 (radiusAt n) n (afterRadius n ws mus targets) (λ s. layoutByLast input n (nextSection input 1 s)) (λ v. record { means = refl; size = tt }) λ _.
-        step 1 (budgetAt n) 1 (afterBudget n ws mus targets radii) (λ s. layoutByLast input n s) (λ v. record { means = refl; size = tt }) last
+        step (triangle n) (muAt n) n (afterMu n ws) (λ s. layoutByLast input n (nextSettings input (nextSection input 1 (nextSection input 1 (nextSection input n s))))) (λ v. record { means = refl; size = tt }) λ _.
+        step n (targetAt n) (triangle n) (afterTarget n ws mus) (λ s. layoutByLast input n (nextSettings input (nextSection input 1 (nextSection input 1 s)))) (λ v. record { means = refl; size = tt }) λ _.
+        step 1 (radiusAt n) n (afterRadius n ws mus targets) (λ s. layoutByLast input n (nextSettings input (nextSection input 1 s))) (λ v. record { means = refl; size = tt }) λ _.
+        step 1 (budgetAt n) 1 (afterBudget n ws mus targets radii) (λ s. layoutByLast input n (nextSettings input s)) (λ v. record { means = refl; size = tt }) settings-good
 
   -- what follows the weights
   abbrev onward : List ℕ → ℕ → D.Layout

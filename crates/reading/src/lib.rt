@@ -6,8 +6,11 @@ ghost use Rattle.definitions.specs.Table.{largestDimension};
 ghost use Rattle.definitions.specs.JobLayout.{itemsAt, doubles, muRows, job};
 ghost use Rattle.definitions.specs.JobLayout as D;
 ghost use Rattle.definitions.specs.Lent.{atEntry, atExit};
-ghost use Rattle.reading.specs.View.{within, sectionOf, nextSection, EndsWithin, SectionIs, sectionEnd, layoutByLast, JobBytes, LayoutIs, jobAt, JobIs};
+ghost use Rattle.reading.specs.View.{within, sectionOf, nextSection, nextSettings, EndsWithin, SectionIs, sectionEnd, layoutByLast, settingsIn, SettingsWithin, JobBytes, LayoutIs, jobAt, settingsRead, JobIs};
 ghost use Rattle.reading.specs.Parts.{NumberWithin, NumberIs, ItemsWithin, RowsWithin, ArrayHolds};
+use definitions::DEFAULT_P;
+use definitions::DEFAULT_PLACES;
+use definitions::DEFAULT_Q;
 use definitions::LARGEST_DIMENSION;
 use definitions::LARGEST_SQUARE;
 use rounding::from_bits;
@@ -73,6 +76,23 @@ fn next_section(input: &[u8], section: Section, count: usize) -> Section
     }
 }
 
+// The settings' section after another; a fault stays. Where no bytes are left it stands for the three default settings and
+// has no bytes.
+fn next_settings(input: &[u8], section: Section) -> Section
+    requires { ⌜ EndsWithin (now input) section ⌝ }
+    ensures { λ r. ⌜ SectionIs (atEntry input) (nextSettings (atEntry input) section) r ⌝ }
+{
+    match section {
+        Section::Fault(_) => return section,
+        Section::Items(_, end) => {
+            if end < input.len() {
+                return section_at(input, 3, 3, end);
+            }
+            return Section::Items(3, end);
+        }
+    }
+}
+
 // n(n-1)/2.
 fn triangle(n: usize) -> usize
     requires { ⌜ n ≤ largestDimension ⌝ }
@@ -91,10 +111,10 @@ pub enum Layout {
 }
 
 // The layout by its last section: nothing may be left over.
-fn layout_by_last(input: &[u8], n: usize, budget: Section) -> Layout
-    ensures { λ r. ⌜ r ≡ layoutByLast (atEntry input) n budget ⌝ }
+fn layout_by_last(input: &[u8], n: usize, settings: Section) -> Layout
+    ensures { λ r. ⌜ r ≡ layoutByLast (atEntry input) n settings ⌝ }
 {
-    match budget {
+    match settings {
         Section::Fault(value) => return Layout::Fault(value),
         Section::Items(_, end) => {
             if end < input.len() {
@@ -105,7 +125,7 @@ fn layout_by_last(input: &[u8], n: usize, budget: Section) -> Layout
     }
 }
 
-// The layout of a job's bytes: five sections, then nothing left over.
+// The layout of a job's bytes: five sections, settings if bytes are left, then nothing left over.
 fn layout_at(input: &[u8]) -> Layout
     ensures { λ r. ⌜ LayoutIs (atEntry input) (D.jobOf (atEntry input)) r ⌝ }
 {
@@ -117,7 +137,8 @@ fn layout_at(input: &[u8]) -> Layout
             let target = next_section(input, mu, n);
             let radius = next_section(input, target, 1);
             let budget = next_section(input, radius, 1);
-            return layout_by_last(input, n, budget);
+            let settings = next_settings(input, budget);
+            return layout_by_last(input, n, settings);
         }
     }
 }
@@ -171,6 +192,31 @@ fn mu_at(input: &[u8], section: usize, n: usize) -> [f64; LARGEST_SQUARE]
     out
 }
 
+// The settings of a job.
+pub struct Settings {
+    pub p: u64,
+    pub q: u64,
+    pub places: u64,
+}
+
+// The settings in a section, or the default ones where no bytes are left for it.
+fn settings_at(input: &[u8], section: usize) -> Settings
+    requires { ⌜ SettingsWithin (now input) section ⌝ }
+    ensures { λ r. ⌜ settingsRead r ≡ settingsIn (atEntry input) section ⌝ }
+{
+    if section < input.len() {
+        let p = number_at(input, section + 4, 8);
+        let q = number_at(input, section + 12, 8);
+        let places = number_at(input, section + 20, 8);
+        return Settings { p, q, places };
+    }
+    Settings {
+        p: DEFAULT_P,
+        q: DEFAULT_Q,
+        places: DEFAULT_PLACES,
+    }
+}
+
 // A job as it was read. If its layout is not whole, `fault` is the value of refusal 1 and the rest says nothing;
 // otherwise the first n weights and targets and the first n·n entries of mu are the job's.
 pub struct Job {
@@ -182,6 +228,7 @@ pub struct Job {
     pub target: [f64; LARGEST_DIMENSION],
     pub radius: f64,
     pub budget: u64,
+    pub settings: Settings,
 }
 
 // The job of n weights in bytes that have its layout.
@@ -193,11 +240,13 @@ fn job_at(input: &[u8], n: usize) -> Job
     let target_section = section_end(mu_section, triangle(n));
     let radius_section = section_end(target_section, n);
     let budget_section = section_end(radius_section, 1);
+    let settings_section = section_end(budget_section, 1);
     let weights = vector_at(input, 0, n);
     let mu = mu_at(input, mu_section, n);
     let target = vector_at(input, target_section, n);
     let radius = from_bits(number_at(input, radius_section + 4, 8));
     let budget = number_at(input, budget_section + 4, 8);
+    let settings = settings_at(input, settings_section);
     Job {
         whole: true,
         fault: 0,
@@ -207,6 +256,7 @@ fn job_at(input: &[u8], n: usize) -> Job
         target,
         radius,
         budget,
+        settings,
     }
 }
 
@@ -220,6 +270,11 @@ pub fn read(input: &[u8]) -> Job
             let weights = [0.0; LARGEST_DIMENSION];
             let mu = [0.0; LARGEST_SQUARE];
             let target = [0.0; LARGEST_DIMENSION];
+            let settings = Settings {
+                p: 0,
+                q: 0,
+                places: 0,
+            };
             return Job {
                 whole: false,
                 fault,
@@ -229,6 +284,7 @@ pub fn read(input: &[u8]) -> Job
                 target,
                 radius: 0.0,
                 budget: 0,
+                settings,
             };
         }
     }

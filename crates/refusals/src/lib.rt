@@ -44,6 +44,8 @@ pub enum Refusal {
     ReferenceIndex,
     // 20: a coordinate against the new reference satellite is no i64 (its index).
     ChangedRange(usize),
+    // 21: a setting is out of range (its index: 0 of p, 1 of q, 2 of the places).
+    SettingRange(usize),
 }
 
 // What a check says.
@@ -157,5 +159,6 @@ pub fn numbers(e: Refusal) -> Carried
         Refusal::ListFull(k) => whole(18, k as u64),
         Refusal::ReferenceIndex => nothing(19),
         Refusal::ChangedRange(i) => whole(20, i as u64),
+        Refusal::SettingRange(i) => whole(21, i as u64),
     }
 }

@@ -2,7 +2,7 @@
 use mathlib.Core.Path.{_≡_, refl}
 use mathlib.Core.Bool.{false}
 use lib.IntN.{pos, negsuc}
-use lib.Ieee.{fin, binary64, ofBits, ofInt}
+use lib.Ieee.{fin, binary64, ofBits}
 
 -- 0.0
 pub zero-is : ofBits binary64 0 ≡ fin false 0 (pos 0)
@@ -23,13 +23,3 @@ one-is = refl
 pub epsilon-is : ofBits binary64 4372995238176751616 ≡ fin false 1 (negsuc 51)
 unfolding ofBits
 epsilon-is = refl
-
--- 3.0
-pub three-is : ofBits binary64 4613937818241073152 ≡ fin false 3 (pos 0)
-unfolding ofBits
-three-is = refl
-
--- the whole number 3 as a double
-pub three-whole : fin false 3 (pos 0) ≡ ofInt binary64 (pos 3)
-unfolding ofInt
-three-whole = refl

@@ -17,6 +17,7 @@ mod PowerBounds
 mod Widening
 mod Tests
 mod Equality
+mod Multiples
 -- What the proofs of the functions cite.
 mod ExactIntegers
 mod Doubling

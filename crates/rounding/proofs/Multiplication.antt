@@ -134,12 +134,3 @@ module _ {f : Format} {w : Float} (p : Weight f w) where
       go (inf true) (fin t n d) q q' h k l = absurd (omega (arith, ord-is f (inf true), overflow-pos f))
       go (inf false) (fin t n d) q q' h k l = absurd (omega (arith, ord-inf f, above-mid f (fin t n d) (q' .fit) (le-trans h k), finite-lt {x = fin t n d} (record { fit = q' .fit; fin = tt })))
       go (fin s m e) (fin t n d) q q' h k l = mul-mono (weight-finite p) (record { fit = q .fit; fin = tt }) (weight-finite p) (record { fit = q' .fit; fin = tt }) (nonneg-mid (weight-nonneg p)) h (float-le-refl f (number (weight-finite p))) l
-
--- ---- a whole number from 1 to 2 ^ prec as a factor
-
-module _ (f : Format) (k : ℕ) (h : 0 < k) (l : k ≤ 2 ^ prec f) where
-  pub whole-times-nonneg : {x : Float} → NonNegative f x → NonNegative f (mul f (ofInt f (pos k)) x)
-  whole-times-nonneg = weight-mul-nonneg (ofInt-weight f k h l)
-
-  pub whole-times-mono : {x x' : Float} → Number f x → Number f x' → mid f ≤ ord f x → T (le x x') → T (le (mul f (ofInt f (pos k)) x) (mul f (ofInt f (pos k)) x'))
-  whole-times-mono = weight-mul-mono (ofInt-weight f k h l)

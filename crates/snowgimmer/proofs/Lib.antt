@@ -3,3 +3,4 @@ pub mod Distances
 pub mod DistanceAgrees
 pub mod Slices
 pub mod EntriesInTurn
+pub mod RatioNumbers

@@ -10,6 +10,7 @@ use Rattle.refusals.specs.Numbers.{carriedBy}
 use Rattle.definitions.specs.Checks.{Verdict, pass, refuse}
 use Rattle.definitions.specs.Calls.{Answer, found, refused}
 use Rattle.definitions.specs.Calls as C
+use Rattle.definitions.specs.Ratio.{Ratio, holds, fails, «open», none}
 use Rattle.listing.specs.View.{Counts}
 use Rattle.snowgimmer.specs.declared.report.Report.{Report}
 
@@ -34,6 +35,17 @@ ofNearest (refused e) = ofRefusal e
 abbrev pub ofCounts : Answer Counts → Report
 ofCounts (found a) = told 0 (a .nodes) (a .points) plusZero
 ofCounts (refused e) = ofRefusal e
+
+-- ratio: the verdict, as a number
+abbrev pub ratioNumber : Ratio → ℕ
+ratioNumber none = 0
+ratioNumber holds = 1
+ratioNumber fails = 2
+ratioNumber «open» = 3
+
+abbrev pub ofRatio : Answer Ratio → Report
+ofRatio (found r) = told 0 (ratioNumber r) 0 plusZero
+ofRatio (refused e) = ofRefusal e
 
 -- round, nearest_plane, change_reference and check_entry: nothing more than the success
 abbrev pub ofVerdict : Verdict → Report

@@ -2,19 +2,26 @@
 -- The answer that the promises speak of is the definition's, which r tells and the slices hold. Definitions only.
 use mathlib.Core.Path.{_≡_}
 use mathlib.Core.List.{List, [], _∷_, _++_}
+use mathlib.Core.Logic.{_↔_}
 use Prim.Native.Nat.{ℕ, _≤_}
+use lib.Dec.{T}
+use lib.ListN.{take}
 use lib.IntN.{ℤ}
 use lib.Ieee.{Float}
-use Rattle.definitions.specs.Table.{Table, dimension}
+use Rattle.definitions.specs.Table.{Table, dimension, plusZero}
 use Rattle.definitions.specs.Calls as C
+use Rattle.definitions.specs.Ratio.{ratioCall}
 use Rattle.definitions.specs.Reference.{changeReference, changeOutput}
 use Rattle.definitions.specs.Entries.{Entry, fed, givenVerdict}
 use Rattle.theorems.specs.Promises.{NearestPromises, SeededPromises, MlPromises, ListPromises, RoundPromises, PlanePromises}
+use Rattle.theorems.specs.Doubles.{ofDoubles}
+use Rattle.theorems.specs.Settings.{RightP, RightQ}
+use Rattle.theorems.specs.Ratios.{Holds, Fails, Open, None, RatioCallPromises}
 use Rattle.theorems.specs.Reference.{ReferencePromises}
 use Rattle.theorems.specs.Entries.{EntryPromises}
 use Rattle.listing.specs.View.{countsOf}
 use Rattle.snowgimmer.specs.declared.report.Report.{Report}
-use Rattle.snowgimmer.specs.Reports.{ofNearest, ofCounts, ofVerdict}
+use Rattle.snowgimmer.specs.Reports.{told, ofNearest, ofCounts, ofRatio, ofVerdict}
 use Rattle.snowgimmer.specs.Distance.{pointDistance}
 use Rattle.snowgimmer.specs.Entries.{entryReport, ToldOf}
 
@@ -70,3 +77,21 @@ pub record EntryTold (number at : ℕ) (e : Entry) (r : Report) : Type 0 where
   -- in with the next entry
   pub promises : (before : List Entry) → ToldOf before number at → EntryPromises before e (fed (givenVerdict number at) e)
   pub hands-on : (before : List Entry) → ToldOf before number at → ToldOf (before ++ e ∷ []) (r .number) (r .first)
+
+-- the number of each verdict is told exactly where what the verdict means is so
+pub record RatioNumbers (p q : ℕ) (t : Table) (target : List Float) (radius : Float) (l : C.Answer C.ListAnswer) (r : Report) : Type 0 where
+  pub none : (r ≡ told 0 0 0 plusZero) ↔ None t target radius l
+  pub holds : (r ≡ told 0 1 0 plusZero) ↔ Holds p q t target radius l
+  pub fails : (r ≡ told 0 2 0 plusZero) ↔ Fails p q t target radius l
+  pub opens : (r ≡ told 0 3 0 plusZero) ↔ Open p q t target radius l
+
+pub record RatioTold (distances : List Float) (radius : Float) (p q : ℕ) (r : Report) : Type 0 where
+  pub tells : r ≡ ofRatio (ratioCall p q distances radius)
+  pub promises : RatioCallPromises p q distances radius (ratioCall p q distances radius)
+  -- handed the distances that a list at the radius left, as many as it has points
+  pub numbers : RightP p q → RightQ q → (t : Table) (target lent : List Float) (points : List ℤ) (budget : ℕ) → T (ofDoubles t target) →
+      let l = C.list t target lent points radius budget in
+      distances ≡ take (C.pointsIn l) (C.listDistances l lent) → RatioNumbers p q t target radius l r
+  -- 21 and its index
+  pub gives-0 : (r ≡ told 21 0 0 plusZero) ↔ (RightP p q → ⊥)
+  pub gives-1 : (r ≡ told 21 1 0 plusZero) ↔ (RightP p q × (RightQ q → ⊥))

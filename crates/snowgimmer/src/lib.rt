@@ -7,7 +7,7 @@ ghost use Rattle.definitions.specs.Lent.{atEntry, atExit, tableAt};
 ghost use Rattle.definitions.specs.Calls as C;
 ghost use Rattle.definitions.specs.Entries.{entryOf};
 ghost use Rattle.snowgimmer.specs.Reports.{toldAt, ofDistance};
-ghost use Rattle.snowgimmer.specs.Told.{NearestTold, SeededTold, MlTold, ListTold, RoundTold, PlaneTold, ChangeTold, EntryTold};
+ghost use Rattle.snowgimmer.specs.Told.{NearestTold, SeededTold, MlTold, ListTold, RatioTold, RoundTold, PlaneTold, ChangeTold, EntryTold};
 ghost use Rattle.snowgimmer.specs.Distance.{pointDistance};
 
 mod entries;
@@ -20,10 +20,12 @@ use entries::entry_report;
 use enumerate::nearest;
 use integers::read_integers;
 use listing::list;
+use ratio::ratio_of;
 use reference::change_reference;
 use report::distance_report;
 use report::list_report;
 use report::nearest_report;
+use report::ratio_report;
 use report::stored;
 use report::verdict_report;
 use rounding::round_away;
@@ -125,6 +127,26 @@ pub extern "C" fn snowgimmer_list(
 {
     let answer = list(weights, mu, target, distances, points, radius, budget);
     stored(list_report(answer), first, second, real)
+}
+
+// The verdict on a list by the distances that it wrote at the radius, as many as it has points, and by the factors p and q:
+// in first 0 for none, 1 for holds, 2 for fails, 3 for open. Of other distances it is the same formula.
+//
+// Refused: 21.
+#[no_mangle]
+pub extern "C" fn snowgimmer_ratio(
+    distances: &[f64],
+    radius: f64,
+    p: u64,
+    q: u64,
+    first: &mut u64,
+    second: &mut u64,
+    real: &mut f64,
+) -> u32
+    ensures { λ r. ⌜ RatioTold (atEntry distances) radius p q (toldAt r first second real) ⌝ }
+{
+    let answer = ratio_of(distances, radius, p, q);
+    stored(ratio_report(answer), first, second, real)
 }
 
 // Each coefficient by itself is rounded to out.

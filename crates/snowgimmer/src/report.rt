@@ -6,6 +6,7 @@ ghost use Rattle.definitions.specs.Lent.{atEntry, tableAt};
 ghost use Rattle.refusals.specs.Numbers.{numbered, verdict};
 ghost use Rattle.enumerate.specs.View as N;
 ghost use Rattle.listing.specs.View as L;
+ghost use Rattle.ratio.specs.View.{verdictOf, answerOf};
 ghost use Rattle.snowgimmer.specs.Reports as R;
 ghost use Rattle.snowgimmer.specs.Distance.{pointDistance};
 use checks::search_check;
@@ -14,6 +15,8 @@ use distance::Distance;
 use distance::triangular_distance;
 use enumerate::NearestAnswer;
 use listing::ListAnswer;
+use ratio::Ratio;
+use ratio::RatioAnswer;
 use refusals::Refusal;
 use refusals::Verdict;
 use refusals::numbers;
@@ -62,6 +65,28 @@ pub fn list_report(answer: ListAnswer) -> Report
     match answer {
         ListAnswer::Found(f) => return told(0, f.nodes, f.points as u64, 0.0),
         ListAnswer::Refused(e) => return refusal_report(e),
+    }
+}
+
+// A verdict on a list as a number.
+fn ratio_number(ratio: Ratio) -> u64
+    ensures { λ r. ⌜ r ≡ R.ratioNumber (verdictOf ratio) ⌝ }
+{
+    match ratio {
+        Ratio::None => 0,
+        Ratio::Holds => 1,
+        Ratio::Fails => 2,
+        Ratio::Open => 3,
+    }
+}
+
+// The report of a verdict on a list: its number.
+pub fn ratio_report(answer: RatioAnswer) -> Report
+    ensures { λ r. ⌜ r ≡ R.ofRatio (answerOf answer) ⌝ }
+{
+    match answer {
+        RatioAnswer::Found(ratio) => return told(0, ratio_number(ratio), 0, 0.0),
+        RatioAnswer::Refused(e) => return refusal_report(e),
     }
 }
 

@@ -1,21 +1,22 @@
--- A section's bytes read as its items, whatever stands before and after them, and five sections as a job. Assumes nothing.
+-- A section's bytes read as its items, whatever stands before and after them, and five sections and the settings as a job. Assumes nothing.
 use mathlib.Core.Path.{_≡_, refl, ap, sym, _∙_}
 use mathlib.Core.Bool.{Bool, true, cond}
-use mathlib.Core.List.{List, [], _∷_, _++_, append-assoc}
+use mathlib.Core.List.{List, [], _∷_, _++_, append-assoc, append-nil}
 use Prim.Native.Nat.{ℕ, zero, suc, _+_, _*_, _/_, _^_, _≤_, _<_}
 use native.Mathlib.Omega.{arith}
 use borrow.Author.Tests.{le-ltb, le-leb, eq-eqb}
 use lib.ListN.{length, take, drop, length-append, length-drop}
 use lib.Seq.{take-at, drop-at, drop-drop}
 use lib.Pow.{shr-lt}
-use lib.Dec.{leb, ltb, eqb}
+use lib.Dec.{leb, ltb, eqb, lit<}
 use lib.Ieee.{binary64, ofBits}
 use Rattle.lists.specs.All.{All, none, more}
 use Rattle.definitions.specs.Table.{largestDimension}
-use Rattle.definitions.specs.JobLayout.{Section, items, littleEndian, numberAt, itemsAt, section, Layout, job, layout-fault, andThen, doubles, triangle, muRows, jobOf}
+use Rattle.definitions.specs.Settings.{defaults}
+use Rattle.definitions.specs.JobLayout.{Section, items, littleEndian, numberAt, itemsAt, section, settingsSection, Layout, job, layout-fault, andThen, doubles, triangle, muRows, jobOf}
 use Rattle.definitions.specs.JobEncoding.{numberBytes, itemBytes, sectionBytes}
 use Rattle.definitions.proofs.Triangles.{triangle-small}
-use Rattle.definitions.proofs.JobSections.{section-whole}
+use Rattle.definitions.proofs.JobSections.{section-whole, settings-given, settings-default}
 
 -- ---- numbers
 length-bytes : (size x : ℕ) → length (numberBytes size x) ≡ size
@@ -86,12 +87,33 @@ module _ (input : List ℕ) where
   nothing-left : (end : ℕ) (l : Layout) → drop end input ≡ [] → cond (ltb end (length input)) (layout-fault end) l ≡ l
   nothing-left end l e = ap (λ (b : Bool). cond b (layout-fault end) l) (le-ltb end (length input) (omega (arith, ap length e, length-drop end input)))
 
-  -- five sections whose counts are right, and nothing after them
-  module _ (weights mu target : List ℕ) (radius budget : ℕ) where
+  -- the bytes from an offset on, which are all that are left, are read as these settings
+  abbrev pub SettingsRead : List ℕ → List ℕ → Type 0
+  SettingsRead bytes settings =
+      (at : ℕ) → drop at input ≡ bytes → (l : List ℕ → Layout) → andThen (settingsSection input at) (λ xs end. cond (ltb end (length input)) (layout-fault end) (l xs)) ≡ l settings
+
+  pub default-read : SettingsRead [] (defaults .p ∷ defaults .q ∷ defaults .places ∷ [])
+  unfolding andThen
+  default-read at e l =
+      let all : length input ≤ at = omega (arith, ap length e, length-drop at input) in
+      ap (λ (s : Section). andThen s (λ xs end. cond (ltb end (length input)) (layout-fault end) (l xs))) (settings-default input at all) ∙ nothing-left at _ e
+
+  pub given-read : (p q places : ℕ) → AllSmall (p ∷ q ∷ places ∷ []) → SettingsRead (sectionBytes (p ∷ q ∷ places ∷ [])) (p ∷ q ∷ places ∷ [])
+  given-read p q places small at e l =
+      let xs = p ∷ q ∷ places ∷ [] in
+      let continues : Continues at (sectionBytes xs) [] = e ∙ sym (append-nil (sectionBytes xs)) in
+      let left : at < length input = omega (arith, ap length e, length-drop at input, length-section-bytes xs) in
+      ap (λ (s : Section). andThen s (λ ys end. cond (ltb end (length input)) (layout-fault end) (l ys))) (settings-given input at left)
+      ∙ section-read at xs [] continues (eqb 3) _ refl (lit< tt) small
+      ∙ nothing-left (at + 4 + 8 * 3) _ (after-section at xs [] continues)
+
+  -- five sections whose counts are right, and after them settings, given or not
+  module _ (weights mu target : List ℕ) (radius budget : ℕ) (bytes : List ℕ) (p q places : ℕ) where
     abbrev n : ℕ
     n = length weights
 
-    pub sections-read : Continues 0 (sectionBytes weights) (sectionBytes mu ++ (sectionBytes target ++ (sectionBytes (radius ∷ []) ++ (sectionBytes (budget ∷ []) ++ []))))
+    pub sections-read : Continues 0 (sectionBytes weights) (sectionBytes mu ++ (sectionBytes target ++ (sectionBytes (radius ∷ []) ++ (sectionBytes (budget ∷ []) ++ bytes))))
+        → SettingsRead bytes (p ∷ q ∷ places ∷ [])
         → n ≤ largestDimension
         → length mu ≡ triangle n
         → length target ≡ n
@@ -100,9 +122,9 @@ module _ (input : List ℕ) where
         → AllSmall target
         → AllSmall (radius ∷ [])
         → AllSmall (budget ∷ [])
-        → jobOf input ≡ job (record { table = record { weights = doubles weights; mu = muRows n (doubles mu) n }; target = doubles target; radius = ofBits binary64 radius; budget = budget })
+        → jobOf input ≡ job (record { table = record { weights = doubles weights; mu = muRows n (doubles mu) n }; target = doubles target; radius = ofBits binary64 radius; budget = budget; settings = record { p = p; q = q; places = places } })
     unfolding jobOf
-    sections-read at-weights few mu-count target-count w m t r b =
+    sections-read at-weights settings few mu-count target-count w m t r b =
         let small = triangle-small n few in
         let at-mu = after-section 0 weights _ at-weights in
         let at-target = after-section _ mu _ at-mu in
@@ -115,4 +137,4 @@ module _ (input : List ℕ) where
         ∙ section-read _ target _ at-target (eqb n) _ (eq-eqb n (length target) (sym target-count)) (omega arith) t
         ∙ section-read radius-at (radius ∷ []) _ at-radius (eqb 1) _ refl (omega arith) r
         ∙ section-read (radius-at + 4 + 8 * 1) (budget ∷ []) _ at-budget (eqb 1) _ refl (omega arith) b
-        ∙ nothing-left (radius-at + 4 + 8 * 1 + 4 + 8 * 1) _ end
+        ∙ settings (radius-at + 4 + 8 * 1 + 4 + 8 * 1) end _

@@ -24,7 +24,7 @@ job-promises input j read =
     record {
       nearest = promises;
       list = list-promises (j .table) (j .target) (jobDistances j) (jobPoints j) (j .radius) (j .budget) (doubles .0) (doubles .1);
-      ratio = list-ratio (j .table) (j .target) (jobDistances j) (jobPoints j) (j .radius) (j .budget) (doubles .0) (doubles .1);
+      ratio = λ range. list-ratio (j .settings .p) (j .settings .q) range (j .table) (j .target) (jobDistances j) (jobPoints j) (j .radius) (j .budget) (doubles .0) (doubles .1);
       same-distance = λ a l q e. promises .list-first (small a q) a q (jobDistances j) (jobPoints j) (j .budget) l e;
     }
   where

@@ -12,7 +12,7 @@ use Rattle.rounding.proofs.Interface.{zero-nonneg}
 use Rattle.lists.specs.All.{none, more}
 use Rattle.lists.proofs.Each.{all-take, all-drop, all-append}
 use Rattle.definitions.specs.Table.{plusZero, largestDimension}
-use Rattle.definitions.specs.JobLayout.{Section, items, section-fault, section, Job, Layout, job, layout-fault, andThen, doubles, triangle, muRows, jobOf}
+use Rattle.definitions.specs.JobLayout.{Section, items, section-fault, section, settingsSection, Job, Layout, job, layout-fault, andThen, doubles, triangle, muRows, jobOf}
 use Rattle.theorems.specs.Doubles.{allDoubles, ofDoubles}
 use Rattle.theorems.proofs.Doubles.{AllDouble, doubles-tested}
 
@@ -54,7 +54,8 @@ layout-doubles input =
     after-section (section input (eqb (triangle n)) muAt) _ λ mu targetAt.
     after-section (section input (eqb n) targetAt) _ λ target radiusAt.
     after-section (section input (eqb 1) radiusAt) _ λ radius budgetAt.
-    after-section (section input (eqb 1) budgetAt) _ λ budget end.
+    after-section (section input (eqb 1) budgetAt) _ λ budget settingsAt.
+    after-section (settingsSection input settingsAt) _ λ settings end.
     at-end (ltb end (length input)) end _ (bits-double weights) (rows-double n (bits-double mu) n) (bits-double target) (ofBits-fits binary64 (getD radius 0 0))
 
 pub job-doubles : (input : List ℕ) (j : Job) → jobOf input ≡ job j → T (ofDoubles (j .table) (j .target)) × T (fits binary64 (j .radius))

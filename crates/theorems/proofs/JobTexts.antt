@@ -1,17 +1,53 @@
--- What the last line of the program's text says, for every input. Assumes nothing.
+-- What the last line of the program's text says, for every input, and when a refusal's line is all of it. Assumes nothing.
 use Prim.Native.Nat.{ℕ}
-use mathlib.Core.Path.{ap, _∙_}
-use mathlib.Core.List.{List, _++_}
+use mathlib.Core.Path.{_≡_, refl, sym, ap, _∙_}
+use mathlib.Core.List.{List, _++_, append-assoc}
+use Rattle.definitions.specs.Refusals.{Refusal}
+use Rattle.definitions.specs.Checks.{Verdict, pass, refuse}
+use Rattle.definitions.specs.Settings.{SettingsInRange, settingsCheck}
 use Rattle.definitions.specs.Ratio.{Ratio}
-use Rattle.definitions.specs.JobText.{nearestLine, listLines, ratioLine, jobNearest, jobList}
-use Rattle.definitions.proofs.JobTexts.{output-ends, output-of-job}
-use Rattle.theorems.specs.JobTexts.{LastLine}
+use Rattle.definitions.specs.JobLayout.{Job, job, jobOf}
+use Rattle.definitions.specs.JobText.{text, newline, refusalLine, nearestLine, listLines, ratioLine, jobNearest, jobList, jobOutput}
+use Rattle.definitions.proofs.Verdicts.{refuse≢pass}
+use Rattle.definitions.proofs.Settings.{settings-passed, settings-pass}
+use Rattle.definitions.proofs.JobTexts.{list-ends, output-ends, output-of-job, output-of-settings, output-of-fault, output-1, output-21}
+use Rattle.theorems.specs.JobTexts.{LastLine, RefusedInput}
 use Rattle.theorems.proofs.JobCalls.{job-promises}
+use Rattle.theorems.proofs.Settings.{first-setting}
 
 pub last-line : (input : List ℕ) → LastLine input
 last-line input verdict = (
-  λ (before, e). let (j, read, is) = output-ends input before verdict e in (j, read, job-promises input j read .ratio .means verdict .0 is),
-  λ (j, read, mean).
-      let is = job-promises input j read .ratio .means verdict .1 mean in
-      (nearestLine (jobNearest j) ++ listLines (jobList j), output-of-job input j read ∙ ap (λ (v : Ratio). nearestLine (jobNearest j) ++ listLines (jobList j) ++ ratioLine v) is),
+  λ (before, e).
+      let told = output-ends input (before ++ newline) verdict e in
+      let range = settings-passed (told .read .settings) (told .passes) in
+      (told .read, told .is, range, job-promises input (told .read) (told .is) .ratio (range .factors) .means verdict .0 (told .verdict)),
+  λ (j, read, range, mean).
+      let is = job-promises input j read .ratio (range .factors) .means verdict .1 mean in
+      let lines = list-ends (jobList j) in (
+        nearestLine (jobNearest j) ++ lines .0,
+        output-of-job input j read (settings-pass (j .settings) range)
+            ∙ ap (λ (v : Ratio). nearestLine (jobNearest j) ++ listLines (jobList j) ++ ratioLine v) is
+            ∙ ap (λ (xs : List ℕ). nearestLine (jobNearest j) ++ xs ++ ratioLine verdict) (lines .1)
+            ∙ ap (λ (xs : List ℕ). xs ++ ratioLine verdict) (sym (append-assoc (nearestLine (jobNearest j)) (lines .0) newline)),
+      ),
 )
+
+-- settings that are not in range are refused
+out-of-range : (input : List ℕ) (j : Job) → jobOf input ≡ job j → (SettingsInRange (j .settings) → ⊥) → jobOutput input ≡ refusalLine (text "job") 21
+out-of-range input j read outside = by (settingsCheck (j .settings)) refl
+  where
+    by : (v : Verdict) → settingsCheck (j .settings) ≡ v → jobOutput input ≡ refusalLine (text "job") 21
+    by pass h = absurd (outside (settings-passed (j .settings) h))
+    by (refuse e) h = output-of-settings input j e read h
+
+pub refused-input : (input : List ℕ) → RefusedInput input
+refused-input input = record {
+  gives-1 = (output-1 input, λ (offset, read). output-of-fault input offset read);
+  gives-21 = (
+    λ e.
+        let told = output-21 input e in
+        (told .0, told .1 .1 .0, λ range. refuse≢pass (sym (told .1 .1 .1) ∙ settings-pass (told .0 .settings) range)),
+    λ (j, read, outside). out-of-range input j read outside,
+  );
+  first-setting = λ j read. first-setting (j .settings);
+}

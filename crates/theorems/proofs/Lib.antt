@@ -46,6 +46,8 @@ pub mod SearchCalls
 pub mod ListCall
 pub mod Promises
 pub mod Ratios
+pub mod Settings
+pub mod RatioCalls
 pub mod References
 -- ---- entries that are not read
 pub mod SameDistances

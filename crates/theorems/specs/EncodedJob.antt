@@ -15,3 +15,6 @@ pub record Encodable (job : Job) : Type 0 where
   pub doubles : T (ofDoubles (job .table) (job .target))
   pub radius-double : T (fits binary64 (job .radius))
   pub budget-small : job .budget < 2 ^ 64
+  pub p-small : job .settings .p < 2 ^ 64
+  pub q-small : job .settings .q < 2 ^ 64
+  pub places-small : job .settings .places < 2 ^ 64

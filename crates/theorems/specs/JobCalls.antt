@@ -8,7 +8,8 @@ use lib.Ieee.{Float}
 use Rattle.definitions.specs.Table.{dimension, plusZero}
 use Rattle.definitions.specs.Calls.{found, NearestPoint, nearestOutput, ListAnswer, listDistances, listPoints}
 use Rattle.definitions.specs.JobLayout.{Job}
-use Rattle.definitions.specs.JobText.{jobPlaces, jobNearest, jobList}
+use Rattle.definitions.specs.Settings.{FactorsInRange}
+use Rattle.definitions.specs.JobText.{jobNearest, jobList}
 use Rattle.theorems.specs.Ordered.{BeginsAt}
 use Rattle.theorems.specs.Promises.{NearestPromises, ListPromises}
 use Rattle.theorems.specs.Ratios.{RatioPromises}
@@ -18,15 +19,15 @@ module _ (j : Job) where
   jobOut = replicate (dimension (j .table)) (pos 0)
 
   abbrev pub jobDistances : List Float
-  jobDistances = replicate jobPlaces plusZero
+  jobDistances = replicate (j .settings .places) plusZero
 
   abbrev pub jobPoints : List ℤ
-  jobPoints = replicate (dimension (j .table) * jobPlaces) (pos 0)
+  jobPoints = replicate (dimension (j .table) * j .settings .places) (pos 0)
 
   pub record JobPromises : Type 0 where
     pub nearest : NearestPromises (j .table) (j .target) jobOut (j .radius) (j .budget) (jobNearest j) (nearestOutput (jobNearest j) jobOut)
     pub list : ListPromises (j .table) (j .target) jobDistances jobPoints (j .radius) (j .budget) (jobList j) (listDistances (jobList j) jobDistances) (listPoints (jobList j) jobPoints)
-    -- the verdict, at the job's own radius
-    pub ratio : RatioPromises (j .table) (j .target) (j .radius) (jobList j)
+    -- the verdict, at the job's own radius and by its own factors
+    pub ratio : FactorsInRange (j .settings .p) (j .settings .q) → RatioPromises (j .settings .p) (j .settings .q) (j .table) (j .target) (j .radius) (jobList j)
     -- where both succeed, the list begins at the distance of the nearest line
     pub same-distance : (a : NearestPoint) (l : ListAnswer) → jobNearest j ≡ found a → jobList j ≡ found l → BeginsAt (a .distance) (l .points)

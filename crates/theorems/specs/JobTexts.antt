@@ -1,17 +1,29 @@
--- What is promised of the last line that the program writes for an input. Definitions only.
+-- What is promised of the last line that the program writes for an input, and of the line that is all it writes. Definitions only.
 use mathlib.Core.Path.{_≡_}
 use mathlib.Core.List.{List, _++_}
 use mathlib.Core.Logic.{_↔_}
 use Prim.Native.Nat.{ℕ}
 use Rattle.definitions.specs.Ratio.{Ratio}
-use Rattle.definitions.specs.JobLayout.{Job, job, jobOf}
-use Rattle.definitions.specs.JobText.{jobList, ratioLine, jobOutput}
+use Rattle.definitions.specs.Settings.{SettingsInRange, settingsCheck}
+use Rattle.definitions.specs.JobLayout.{Job, job, layout-fault, jobOf}
+use Rattle.definitions.specs.JobText.{text, newline, refusalLine, jobList, ratioLine, jobOutput}
+use Rattle.theorems.specs.Settings.{FirstSetting}
 use Rattle.theorems.specs.Ratios.{Means}
 
-abbrev pub EndsWith : List ℕ → List ℕ → Type 0
-EndsWith bytes line = (before : List ℕ) × (bytes ≡ before ++ line)
+-- the last line of some bytes is this one
+abbrev pub LastIs : List ℕ → List ℕ → Type 0
+LastIs bytes line = (before : List ℕ) × (bytes ≡ before ++ newline ++ line)
 
--- the text ends with a verdict's line exactly where the input is a job, and what the verdict means is so of its list and its radius
+-- the last line of the text is a verdict's exactly where the input is a job with settings in range, and what the verdict means is so of
+-- its list and its radius
 abbrev pub LastLine : List ℕ → Type 0
 LastLine input =
-    (verdict : Ratio) → EndsWith (jobOutput input) (ratioLine verdict) ↔ ((j : Job) × (jobOf input ≡ job j) × Means (j .table) (j .target) (j .radius) (jobList j) verdict)
+    (verdict : Ratio) → LastIs (jobOutput input) (ratioLine verdict) ↔
+    ((j : Job) × (jobOf input ≡ job j) × SettingsInRange (j .settings) × Means (j .settings .p) (j .settings .q) (j .table) (j .target) (j .radius) (jobList j) verdict)
+
+-- it is the line of 1 alone exactly where the input is no job, and that of 21 alone exactly where it is one and a setting is out of range
+pub record RefusedInput (input : List ℕ) : Type 0 where
+  pub gives-1 : (jobOutput input ≡ refusalLine (text "job") 1) ↔ ((offset : ℕ) × (jobOf input ≡ layout-fault offset))
+  pub gives-21 : (jobOutput input ≡ refusalLine (text "job") 21) ↔ ((j : Job) × (jobOf input ≡ job j) × (SettingsInRange (j .settings) → ⊥))
+  -- of a job the check of its settings tells the first that is not right
+  pub first-setting : (j : Job) → jobOf input ≡ job j → FirstSetting (j .settings) (settingsCheck (j .settings))

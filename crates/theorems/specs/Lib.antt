@@ -8,6 +8,7 @@ pub mod Ordered
 pub mod Refusals
 pub mod Answers
 pub mod Promises
+pub mod Settings
 pub mod Ratios
 pub mod Reference
 pub mod Entries

@@ -1,7 +1,7 @@
 -- The group of a refusal's number, by the range that it is in. Assumes nothing.
-use mathlib.Core.Path.{_≡_}
+use mathlib.Core.Path.{_≡_, sym, ap}
 use Prim.Native.Nat.{ℕ, _≤_, _<_}
-use borrow.Author.Tests.{le-leb, lt-leb}
+use borrow.Author.Tests.{le-leb, lt-leb, ne-eqb}
 use native.Mathlib.Omega.{arith}
 use Rattle.definitions.specs.JobText.{text, group}
 
@@ -17,9 +17,13 @@ pub call-group : (number : ℕ) → 5 < number → number ≤ 14 → text "call"
 unfolding group
 call-group number l h = let k : 1 < number = omega arith in simp (lt-leb number 1 k, lt-leb number 5 l, le-leb number 14 h)
 
-pub search-group : (number : ℕ) → 14 < number → text "search" ≡ group number
+pub settings-group : (number : ℕ) → number ≡ 21 → text "layout" ≡ group number
 unfolding group
-search-group number l =
+settings-group number e = ap group (sym e)
+
+pub search-group : (number : ℕ) → 14 < number → (number ≡ 21 → ⊥) → text "search" ≡ group number
+unfolding group
+search-group number l other =
     let k : 1 < number = omega arith in
     let m : 5 < number = omega arith in
-    simp (lt-leb number 1 k, lt-leb number 5 m, lt-leb number 14 l)
+    simp (lt-leb number 1 k, lt-leb number 5 m, lt-leb number 14 l, ne-eqb number 21 other)

@@ -134,6 +134,7 @@ pub fn group(out: &mut [u8], at: usize, number: u64) -> usize
         0..=1 => put(out, at, b"layout"),
         2..=5 => put(out, at, b"table"),
         6..=14 => put(out, at, b"call"),
+        21 => put(out, at, b"layout"),
         _ => put(out, at, b"search"),
     }
 }

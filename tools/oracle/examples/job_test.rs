@@ -4,9 +4,9 @@
 //!
 //! The original's: the points, the counts, the distances, the list's order and refusals 7, 8, 15 and 16. What it does
 //! not hand out: a list's nodes are the least budget that it accepts, the distance of the nearest point is that of its
-//! `triangular_distance`. Worked out here, by the specification: the layout with refusal 1, refusals 3, 4, 5, 9 and 18,
-//! which refusal comes first, the ratio and the text. A job can't meet the others: by its layout its table has the right
-//! size and its target the right length, and the program lends the list right slices.
+//! `triangular_distance`. Worked out here, by the specification: the layout with refusal 1, the settings with refusal 21,
+//! refusals 3, 4, 5, 9 and 18, which refusal comes first, the ratio and the text. A job can't meet the others: by its
+//! layout its table has the right size and its target the right length, and the program lends the list right slices.
 
 use oracle::Enumerator;
 use oracle::error::DecodeError;
@@ -17,7 +17,8 @@ const LARGEST_DIMENSION: usize = 23;
 const LARGEST_BUDGET: u64 = 1 << 60;
 /// 2^52
 const LARGEST_ENTRY: f64 = 4_503_599_627_370_496.0;
-const PLACES: usize = 256;
+/// p, q and places of a job without a sixth section.
+const SETTINGS: [u64; 3] = [3, 1, 256];
 
 struct Job {
     weights: Vec<f64>,
@@ -26,6 +27,7 @@ struct Job {
     target: Vec<f64>,
     radius: f64,
     budget: u64,
+    settings: [u64; 3],
 }
 
 // ---- the layout
@@ -53,6 +55,11 @@ fn job(mut input: &[u8]) -> Option<Job> {
     let target = doubles(section(&mut input, |count| count == n)?);
     let radius = f64::from_bits(section(&mut input, |count| count == 1)?[0]);
     let budget = section(&mut input, |count| count == 1)?[0];
+    let settings = if input.is_empty() {
+        SETTINGS
+    } else {
+        section(&mut input, |count| count == SETTINGS.len())?.try_into().unwrap()
+    };
     if !input.is_empty() {
         return None;
     }
@@ -60,10 +67,15 @@ fn job(mut input: &[u8]) -> Option<Job> {
     for j in 0..n {
         mu[j * n..][..j].fill_with(|| entries.next().unwrap());
     }
-    Some(Job { weights, mu, target, radius, budget })
+    Some(Job { weights, mu, target, radius, budget, settings })
 }
 
 // ---- the refusals
+
+/// Whether each setting is in its range: refusal 21 does not tell them apart in the text.
+fn in_range([p, q, places]: [u64; 3]) -> bool {
+    (1..=1000).contains(&p) && (1..=p).contains(&q) && (1..=256).contains(&places)
+}
 
 /// The first of 3 to 5 that fits the table.
 fn table_fault(job: &Job) -> Option<u32> {
@@ -109,7 +121,7 @@ fn answer<T>(job: &Job, call: impl Fn(&Enumerator, u64) -> Result<T, DecodeError
 
 fn refusal_line(word: &str, number: u32) -> String {
     let group = match number {
-        1 => "layout",
+        1 | 21 => "layout",
         2..=5 => "table",
         6..=14 => "call",
         _ => "search",
@@ -135,25 +147,28 @@ fn nearest_line(job: &Job) -> String {
     }
 }
 
-/// Of the number of points listed, the first two distances and the job's radius.
-fn verdict(points: &[(f64, Vec<i64>)], radius: f64) -> &'static str {
+/// Of the number of points listed, the first two distances, the job's radius and its p and q. Each product is rounded
+/// once; that with p must be finite.
+fn verdict(points: &[(f64, Vec<i64>)], radius: f64, [p, q]: [f64; 2]) -> &'static str {
+    let met = |second: f64, first: f64| (p * first).is_finite() && q * second >= p * first;
     match points {
         [] => "none",
-        [(first, _)] if radius >= 3.0 * first => "holds",
+        [(first, _)] if met(radius, *first) => "holds",
         [_] => "open",
-        [(first, _), (second, _), ..] if *second >= 3.0 * first => "holds",
+        [(first, _), (second, _), ..] if met(*second, *first) => "holds",
         _ => "fails",
     }
 }
 
-/// The list's lines and the ratio's.
+/// The list's lines and the ratio's, of a job whose settings are in range.
 fn list_lines(job: &Job) -> String {
+    let [p, q, places] = job.settings.map(|setting| u32::try_from(setting).unwrap());
     let (points, nodes) = match answer(job, |table, budget| oracle::list(table, &job.target, job.radius, budget)) {
-        Ok((points, _)) if points.len() > PLACES => return refusal_line("list", 18) + "ratio none\n",
+        Ok((points, _)) if points.len() > places as usize => return refusal_line("list", 18) + "ratio none\n",
         Err(number) => return refusal_line("list", number) + "ratio none\n",
         Ok(listed) => listed,
     };
-    let ratio = verdict(&points, job.radius);
+    let ratio = verdict(&points, job.radius, [p, q].map(f64::from));
     let lines: String = points.iter().map(|(distance, z)| format!("{}{}\n", bits(*distance), coordinates(z))).collect();
     format!("list {nodes} {}\n{lines}ratio {ratio}\n", points.len())
 }
@@ -161,6 +176,7 @@ fn list_lines(job: &Job) -> String {
 fn job_text(input: &[u8]) -> String {
     match job(input) {
         None => refusal_line("job", 1),
+        Some(job) if !in_range(job.settings) => refusal_line("job", 21),
         Some(job) => nearest_line(&job) + &list_lines(&job),
     }
 }

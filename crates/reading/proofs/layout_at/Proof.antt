@@ -5,7 +5,7 @@ use Rattle.definitions.specs.JobLayout as D
 use Rattle.reading.specs.declared.Section.{Section}
 use Rattle.reading.specs.declared.Section.the-variants.{Items}
 use Rattle.reading.specs.declared.Layout.{Layout}
-use Rattle.reading.specs.View.{EndsWithin, nextSection, layoutByLast, LayoutIs}
+use Rattle.reading.specs.View.{EndsWithin, nextSection, nextSettings, layoutByLast, LayoutIs}
 use Rattle.reading.proofs.Layouts.{layoutFrom, layout-good, Few, weights-few}
 use borrow.Author.Needs.{needs}
 use Rattle.reading.proofs.layout_at.Statement.{statement}
@@ -28,7 +28,8 @@ next-section-requires c κs =
 
 returns-2 : tie.Need-returns-2
 returns-2 c =
-    let fourth = c .before in
+    let last = c .before in
+    let fourth = last .before in
     let third = fourth .before in
     let second = third .before in
     let first = second .before in
@@ -42,9 +43,10 @@ returns-2 c =
     let e2 : _≡_ {A = Section} (second .next-section2 .result) (nextSection input n (first .next-section .result)) = second .next-section2 .ensures .means in
     let e3 : _≡_ {A = Section} (third .next-section3 .result) (nextSection input 1 (second .next-section2 .result)) = third .next-section3 .ensures .means in
     let e4 : _≡_ {A = Section} (fourth .next-section4 .result) (nextSection input 1 (third .next-section3 .result)) = fourth .next-section4 .ensures .means in
+    let e5 : _≡_ {A = Section} (last .next-settings .result) (nextSettings input (fourth .next-section4 .result)) = last .next-settings .ensures .means in
     let mu = e1 ∙ ap (λ (k : ℕ). nextSection input k (Items n end)) (count-read .triangle .ensures) in
     let chain : _≡_ {A = Layout} (c .layout-by-last .result) (layoutFrom input (Items n end)) =
-    c .layout-by-last .ensures ∙ ap (layoutByLast input n) (e4 ∙ ap (nextSection input 1) (e3 ∙ ap (nextSection input 1) (e2 ∙ ap (nextSection input n) mu)))
+    c .layout-by-last .ensures ∙ ap (layoutByLast input n) (e5 ∙ ap (nextSettings input) (e4 ∙ ap (nextSection input 1) (e3 ∙ ap (nextSection input 1) (e2 ∙ ap (nextSection input n) mu))))
     in
     subst (LayoutIs input (D.jobOf input)) (sym chain)
     (subst (λ (s : Section). LayoutIs input (D.jobOf input) (layoutFrom input s)) (sym (read .section-at .ensures .means) ∙ variant .1) (layout-good input))
@@ -59,6 +61,7 @@ layout-at-spec =
     (λ c. search needs)
     triangle-requires
     next-section-requires
+    (λ c κs. search needs)
     (λ c κs. search needs)
     (λ c κs. search needs)
     (λ c κs. search needs)
