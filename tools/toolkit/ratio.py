@@ -14,7 +14,7 @@ DEFAULT = Settings(3, 1, LARGEST_PLACES)  # of a job without a sixth section
 
 
 def fault(settings):
-    """The index of the first setting that is out of range, or None. A p below q counts as p's."""
+    """The index of the first setting that is out of range, or None. Where p is below q it is p."""
     p, q, places = settings
     if not 1 <= p <= LARGEST_FACTOR or p < q:
         return 0

@@ -10,8 +10,8 @@ use lib.Seq.{take-at}
 use lib.IntN.{pos}
 use lib.Ieee.{Float, binary64, prec, mul, ofInt, le, lt}
 use lib.Ieee.Scale.{finite}
-use Rattle.rounding.specs.Kinds.{Number, NonNegative}
-use Rattle.rounding.proofs.Interface.{whole-times-number, whole-times-nonneg, whole-times-mono, whole-times-zero, whole-times-once}
+use Rattle.rounding.specs.Kinds.{Number}
+use Rattle.rounding.proofs.Interface.{whole-times-number, whole-times-mono, whole-times-zero, whole-times-once}
 use Rattle.definitions.specs.Table.{plusZero}
 use Rattle.definitions.specs.Listing.{ListPoint}
 use Rattle.definitions.specs.Refusals.{Refusal}
@@ -31,9 +31,6 @@ module _ (k : ℕ) (some : 0 < k) (most : k ≤ largestFactor) where
 
   pub times-number : {d : Float} → Number binary64 d → Number binary64 (times k d)
   times-number {d} n = subst (Number binary64) (sym (times-is k d)) (whole-times-number binary64 k some exact n)
-
-  pub times-nonneg : {d : Float} → NonNegative binary64 d → NonNegative binary64 (times k d)
-  times-nonneg {d} n = subst (NonNegative binary64) (sym (times-is k d)) (whole-times-nonneg binary64 k some exact n)
 
   pub times-mono : {d e : Float} → Number binary64 d → Number binary64 e → T (not (lt d plusZero)) → T (le d e) → T (le (times k d) (times k e))
   times-mono {d} {e} n m plus h = rw (times-is k d, times-is k e) (whole-times-mono binary64 k some exact n m plus h)

@@ -7,7 +7,7 @@ use mathlib.Core.List.{[], _∷_}
 use borrow.Author.Tests.{ltb-true, ltb-false, le-ltb, lt-ltb}
 use lib.Dec.{ltb}
 use Rattle.definitions.specs.Refusals.{Refusal, settingRange}
-use Rattle.definitions.specs.Checks.{Verdict, pass, refuse, refuseAtFirst, countFrom, firstRefusal}
+use Rattle.definitions.specs.Checks.{Verdict, pass, refuse, refuseAtFirst, countFrom}
 use Rattle.definitions.specs.Settings.{Settings, largestFactor, largestPlaces, outside, factorsCheck, FactorsInRange, placesCheck, SettingsInRange, settingsCheck}
 use Rattle.definitions.proofs.Verdicts.{orElse, refuse≢pass, first-cons, first-alone}
 use Rattle.definitions.proofs.Tables.{both-false}

@@ -106,6 +106,7 @@ fn two_or_more() {
     say(b"third at three times d1:", ratio_of(&three, 4.0, 3, 1));
     let none = [0.0; 0];
     say(b"no distance:", ratio_of(&none, 4.0, 3, 1));
+    say(b"no distance, p 0:", ratio_of(&none, 4.0, 0, 0));
 }
 
 // A NaN passes no test.
@@ -117,8 +118,8 @@ fn beyond_lists() {
     two(b"negative:", -1.0, -2.0, 9.0);
 }
 
-// Each product is rounded by itself. Other readings say the opposite: d2 ≥ (p/q)·d1 of the first, d2 ≥ p·d1/q of the second,
-// d2/d1 ≥ p/q of the third, and of the fourth that inf ≥ inf.
+// Each product is rounded by itself, once. Other readings say the opposite: d2 ≥ (p/q)·d1 of the first, d2 ≥ p·d1/q of the
+// second, d2/d1 ≥ p/q of the third; sums in place of products of the next two; and of the sixth that inf ≥ inf.
 fn products() {
     by(
         b"d2 below (p/q) d1:",
@@ -141,11 +142,15 @@ fn products() {
         1.343697911347522,
         2.015546867021283,
     );
+    by(b"sum of ten:", 10, 1, 0.1, 0.9999999999999999);
+    by(b"sum of sixteen:", 16, 10, 0.0625, 0.1);
     by(b"both overflow:", 5, 5, LARGEST, LARGEST);
     by(b"only q d2 overflows:", 1000, 1000, 1.0, LARGEST);
     by(b"equal at p = q:", 1000, 1000, 0.25, 0.25);
     by(b"equal at q = p - 1:", 1000, 999, 0.25, 0.25);
     by(b"p and q exchanged:", 3, 2, 0.25, 0.3);
+    let lone = [0.0625];
+    say(b"q of a lone point:", ratio_of(&lone, 0.1, 16, 10));
 }
 
 // 21 of the call: index 0 where p is out of range or below q, whatever q is, then 1.

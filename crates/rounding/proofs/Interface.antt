@@ -23,6 +23,6 @@ pub use Rattle.rounding.proofs.ExactIntegers.{whole-without-gap}
 -- sums, differences, multiples, the term, the widened radius
 pub use Rattle.rounding.proofs.NonNegative.{add-nonneg, finite-below, remaining-fits}
 pub use Rattle.rounding.proofs.Subtraction.{sub-number, sub-mono}
-pub use Rattle.rounding.proofs.Multiples.{whole-times-number, whole-times-nonneg, whole-times-mono, whole-times-zero, whole-times-once}
+pub use Rattle.rounding.proofs.Multiples.{whole-times-number, whole-times-mono, whole-times-zero, whole-times-once}
 pub use Rattle.rounding.proofs.Term.{term, passed-term-nonneg, term-nonneg, term-up, term-down, term-least}
 pub use Rattle.rounding.proofs.Widening.{widened, widening-fits, widening-lt, widening-nonneg, widening-same}

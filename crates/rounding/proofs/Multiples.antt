@@ -7,7 +7,7 @@ use lib.IntN.{pos}
 use lib.Dec.{T, lit<}
 use lib.Ieee.{Float, nan, inf, fin, Format, prec, unlike, mul, ofInt, le, lt, isNan}
 use Rattle.rounding.specs.Doubles.{negative}
-use Rattle.rounding.specs.Kinds.{Number, Finite, NonNegative}
+use Rattle.rounding.specs.Kinds.{Number, Finite}
 use Rattle.rounding.proofs.Scaled.{scale, scaled, scale-pos, scale-scale-pos, scaled-zero}
 use Rattle.rounding.proofs.Value.{Weight, number, weight-finite, weight-nonneg, zero-finite, zero-nonneg, nonneg-mid, offset, mid, ord, ord-is, ord-zero, ord→eq}
 use Rattle.rounding.proofs.Rounding.{roundFraction-same, roundScaled-fix}
@@ -26,15 +26,12 @@ module _ (f : Format) (k : ℕ) (h : 0 < k) (l : k ≤ 2 ^ prec f) where
   pub whole-times-number : {x : Float} → Number f x → Number f (mul f factor x)
   whole-times-number = weight-mul-number above
 
-  pub whole-times-nonneg : {x : Float} → NonNegative f x → NonNegative f (mul f factor x)
-  whole-times-nonneg = weight-mul-nonneg above
-
   pub whole-times-mono : {x x' : Float} → Number f x → Number f x' → T (not (lt x (fin false 0 (pos 0)))) → T (le x x') → T (le (mul f factor x) (mul f factor x'))
   whole-times-mono p q plus = weight-mul-mono above p q (mid-of-not-lt p plus)
 
   pub whole-times-zero : mul f factor (fin false 0 (pos 0)) ≡ fin false 0 (pos 0)
   whole-times-zero =
-      nonneg-same f (mul f factor (fin false 0 (pos 0))) (fin false 0 (pos 0)) (whole-times-nonneg (zero-nonneg f)) (zero-nonneg f)
+      nonneg-same f (mul f factor (fin false 0 (pos 0))) (fin false 0 (pos 0)) (weight-mul-nonneg above (zero-nonneg f)) (zero-nonneg f)
       (ord-mul f factor (fin false 0 (pos 0)) (weight-finite above) (zero-finite f) (nonneg-mid (weight-nonneg above)) (nonneg-mid (zero-nonneg f))
       ∙ ap (λ (z : ℕ). mid f + z) (ap (product f (scaled f factor)) (scaled-zero f false (pos 0)) ∙ product-zero f (scaled f factor))
       ∙ add-zero (mid f)

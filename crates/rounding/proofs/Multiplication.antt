@@ -1,20 +1,19 @@
 -- The theorem of multiplication: the scaled magnitude of a product is the exact product, rounded, and its sign is the product of the signs. So a product of values that are not below zero keeps the order in both factors, and a positive finite factor does so up to infinity. Assumes nothing.
 use mathlib.Core.Path.{_≡_, refl, sym, ap, _∙_, subst}
 use mathlib.Core.Logic.{_⊎_, inl, inr}
-use Prim.Native.Nat.{ℕ, zero, suc, _+_, _*_, _^_, _≤_, _<_}
+use Prim.Native.Nat.{ℕ, zero, suc, _+_, _*_, _≤_}
 use native.Mathlib.Nat.{le-trans, le-of-eq, lt-of-lt-of-le, lt-irrefl, zero-mul, mul-zero, mul-comm, mul-le-mul, mul-le-mul-right, mul-pos, mul-mul-mul-comm}
 use native.Mathlib.Omega.{arith}
 use mathlib.Core.Bool.{Bool, true, false, cond, true≢false}
-use lib.IntN.{ℤ, pos}
+use lib.IntN.{ℤ}
 use lib.Dec.{T, eqb·suc-zero}
-use lib.Ieee.{Float, nan, inf, fin, Format, prec, up, down, unlike, round, mul, ofInt, le, isNan}
+use lib.Ieee.{Float, nan, inf, fin, Format, up, down, unlike, round, mul, le, isNan}
 use lib.Ieee.Fits.{down-pos}
 use Rattle.rounding.specs.Doubles.{negative}
 use Rattle.rounding.proofs.Scaled.{scale, scaled, scale-pos, scale-scale-pos, overflow-pos, scaled-exact, scaled-zero}
 use Rattle.rounding.specs.Kinds.{Number, Finite, NonNegative}
 use Rattle.rounding.proofs.Value.{Weight, number, weight-finite, weight-nonneg, inf-number, finite-lt, offset, mid, ord, ord-is, ord-inf, nonneg-mid, above-mid, mid-sign, le→ord, ord→le, float-le-refl, float-le-inf}
 use Rattle.rounding.proofs.Rounding.{roundFraction, round-sign, round-number, scaled-round, roundFraction-mono, roundFraction-same, roundScaled-zero}
-use Rattle.rounding.proofs.Conversion.{ofInt-weight}
 
 -- ---- the theorem
 

@@ -2,7 +2,6 @@
 use Prim.Native.Nat.{ℕ}
 use mathlib.Core.Path.{_≡_, refl, sym, ap, _∙_}
 use mathlib.Core.List.{List, _++_, append-assoc}
-use Rattle.definitions.specs.Refusals.{Refusal}
 use Rattle.definitions.specs.Checks.{Verdict, pass, refuse}
 use Rattle.definitions.specs.Settings.{SettingsInRange, settingsCheck}
 use Rattle.definitions.specs.Ratio.{Ratio}

@@ -5,11 +5,11 @@ use Prim.Native.Nat.{ℕ, _≤_, _<_}
 use native.Mathlib.Omega.{arith}
 use mathlib.Core.Bool.{Bool, true, false, not, _&&_, cond}
 use mathlib.Core.List.{List, [], _∷_, map}
-use lib.Dec.{T, T-not, not-T}
+use lib.Dec.{T, T-not}
 use lib.IntN.{ℤ}
 use lib.Ieee.{Float, binary64, fits, le, lt}
 use lib.Ieee.Scale.{finite}
-use lib.Ieee.Fits.{and-l, and-r, and-i}
+use lib.Ieee.Fits.{and-l, and-r}
 use Rattle.rounding.specs.Kinds.{Number, NonNegative}
 use Rattle.rounding.proofs.Interface.{number, zero-nonneg, float-le-trans, not-lt→le, not-le→lt, le→not-lt, nonneg-not-lt}
 use Rattle.definitions.specs.Table.{Table, plusZero}
@@ -21,7 +21,7 @@ use Rattle.definitions.specs.Calls.{Answer, found, refused, ListAnswer, list}
 use Rattle.definitions.specs.Settings.{FactorsInRange}
 use Rattle.definitions.specs.Ratio.{Ratio, holds, fails, «open», none, times, met, ratio, listRatio}
 use Rattle.definitions.proofs.Answers.{found≢refused}
-use Rattle.definitions.proofs.Ratios.{times-number, times-nonneg, times-mono, times-zero, times-once, met-is, ratio-nothing, ratio-alone, ratio-more, list-ratio-found, list-ratio-refused}
+use Rattle.definitions.proofs.Ratios.{times-number, times-mono, times-zero, times-once, met-is, ratio-nothing, ratio-alone, ratio-more, list-ratio-found, list-ratio-refused}
 use Rattle.theorems.specs.Doubles.{ofDoubles}
 use Rattle.theorems.specs.Ordered.{BeginsAt, StrictlyOrdered}
 use Rattle.theorems.specs.Answers.{Listed}
