@@ -124,7 +124,7 @@ jobList j =
 abbrev pub jobRatio : Job → Ratio
 jobRatio j = listRatio (j .settings .p) (j .settings .q) (jobList j) (j .radius)
 
--- by the check of the settings: the lines of nearest, of the list and of the ratio, or the refusal alone
+-- a job's lines, by the check of its settings: those of nearest, of the list and of the ratio, or that of the refusal alone
 unfoldable pub jobLines : Verdict → Job → List ℕ
 unfolding nearest list listRatio nearestLine listLines ratioLine refusalLine
 jobLines (refuse e) j = refusalLine (text "job") (e .number)

@@ -3,8 +3,8 @@
 // specification from another reading, its comment names that. Some cases are of distances that no list has: the verdict is
 // that of the definition there too.
 //
-// The expected output was worked out by hand, the products of doubles as Rust and Python compute them. The original has no
-// such call.
+// The expected output was worked out apart from the code, the products as exact fractions that are rounded once. The
+// original has no such call.
 use printing::newline;
 use printing::values::LARGEST;
 use printing::values::SMALLEST;

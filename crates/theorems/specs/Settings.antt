@@ -4,6 +4,7 @@ use Rattle.definitions.specs.Refusals.{settingRange}
 use Rattle.definitions.specs.Checks.{Verdict, pass, refuse}
 use Rattle.definitions.specs.Settings.{Settings}
 
+-- p, beside q
 abbrev pub RightP : ℕ → ℕ → Type 0
 RightP p q = (1 ≤ p) × (p ≤ 1000) × (q ≤ p)
 
