@@ -46,7 +46,7 @@
  *   14 ListSize             distances' length                     over 4096, or points not n times as many
  *   15 BudgetExhausted      nodes                       radius    the one that stood when the walk stopped
  *   16 OutsideRadius                                    radius    no vector is inside it
- *   17 NoSeed                                           radius    no vector is inside the widened one
+ *   17 is free: nothing is refused by it, and no refusal will be given it
  *   18 ListFull             points                                more points than places
  *   19 ReferenceIndex                                             r is not below the point's length
  *   20 ChangedRange         its index                             a coordinate becomes no int64_t
@@ -70,9 +70,9 @@
 #include <stdint.h>
 
 #define SNOWGIMMER_VERSION_MAJOR 0
-#define SNOWGIMMER_VERSION_MINOR 7
+#define SNOWGIMMER_VERSION_MINOR 8
 #define SNOWGIMMER_VERSION_PATCH 0
-#define SNOWGIMMER_VERSION "0.7.0"
+#define SNOWGIMMER_VERSION "0.8.0"
 
 /* The largest n. */
 #define SNOWGIMMER_LARGEST_DIMENSION 23
@@ -107,7 +107,6 @@ enum snowgimmer_refusal {
     SNOWGIMMER_LIST_SIZE = 14,
     SNOWGIMMER_BUDGET_EXHAUSTED = 15,
     SNOWGIMMER_OUTSIDE_RADIUS = 16,
-    SNOWGIMMER_NO_SEED = 17,
     SNOWGIMMER_LIST_FULL = 18,
     SNOWGIMMER_REFERENCE_INDEX = 19,
     SNOWGIMMER_CHANGED_RANGE = 20,
@@ -133,7 +132,6 @@ static inline const char *snowgimmer_refusal_name(uint32_t number) {
     case SNOWGIMMER_LIST_SIZE: return "ListSize";
     case SNOWGIMMER_BUDGET_EXHAUSTED: return "BudgetExhausted";
     case SNOWGIMMER_OUTSIDE_RADIUS: return "OutsideRadius";
-    case SNOWGIMMER_NO_SEED: return "NoSeed";
     case SNOWGIMMER_LIST_FULL: return "ListFull";
     case SNOWGIMMER_REFERENCE_INDEX: return "ReferenceIndex";
     case SNOWGIMMER_CHANGED_RANGE: return "ChangedRange";
@@ -174,13 +172,17 @@ uint32_t snowgimmer_nearest(const double *weights, size_t weights_len, const dou
     uint64_t *first, uint64_t *second, double *real);
 
 /* The same inside the widened radius, radius + (2^-52 * max(radius, 1)) * 4n, a candidate inside the radius being
- * known; real is the distance of the point written. Refused: 2 to 13, 15, 17. Stack: 60 kB. */
+ * known; real is the distance of the point written. Once the checks have passed it ends with a point or with 15, and
+ * always with a point if the budget is at least the number of nodes that snowgimmer_list takes at the widened radius.
+ * Refused: 2 to 13, 15. Stack: 60 kB. */
 uint32_t snowgimmer_nearest_seeded(const double *weights, size_t weights_len, const double *mu, size_t mu_len,
     const double *target, size_t target_len, int64_t *out, size_t out_len, const int64_t *candidate,
     size_t candidate_len, double radius, uint64_t budget, uint64_t *first, uint64_t *second, double *real);
 
 /* The same; the candidate is the nearest-plane point, and the radius that point's distance; real is the distance of the
- * point written. Refused: 2 to 7, 9, 11, 13, 15, 17. Stack: 60 kB. */
+ * point written. It too ends with a point or with 15 once the checks have passed, and always with a point if the budget
+ * is at least the number of nodes that a list takes at the widened radius. Refused: 2 to 7, 9, 11, 13, 15. Stack:
+ * 60 kB. */
 uint32_t snowgimmer_nearest_ml(const double *weights, size_t weights_len, const double *mu, size_t mu_len,
     const double *target, size_t target_len, int64_t *out, size_t out_len, uint64_t budget, uint64_t *first,
     uint64_t *second, double *real);

@@ -1,5 +1,5 @@
-/* Every function and every refusal but 17, which never comes, through the header as C99 and as C++. It prints what
- * differs; tools/test_install compiles and runs it. */
+/* Every function and every refusal through the header as C99 and as C++. It prints what differs; tools/test_install
+ * compiles and runs it. */
 #include <float.h>
 #include <math.h>
 #include <stdio.h>
@@ -106,6 +106,35 @@ static void candidates(void) {
     expect("distance overflows", seeded(DBL_MAX, 1 << 30, 1, 1.0), SNOWGIMMER_CANDIDATE_DISTANCE, 0, 0, HUGE_VAL);
     expect("candidate outside", seeded(1.0, 2, 1, 2.0), SNOWGIMMER_CANDIDATE_OUTSIDE, 0, 0, 2.0);
     expect("widened radius", seeded(1.0, 0, 1, DBL_MAX), SNOWGIMMER_WIDENED_RADIUS, 0, 0, HUGE_VAL);
+}
+
+/* Case H, with a candidate at the radius 1, inside which nearest finds nothing; widened it opens 10 prefixes, of which
+ * the search, whose radius shrinks, tries 6. A smaller budget must leave the output alone. */
+static void expect_case_h(const char *what, uint32_t number, uint64_t budget, const int64_t *out) {
+    if (budget < 6) {
+        expect(what, number, SNOWGIMMER_BUDGET_EXHAUSTED, budget, 0, 1.0);
+        expect_point(what, out, 7, 8);
+    } else {
+        expect(what, number, SNOWGIMMER_SUCCESS, 6, 0, 1.0);
+        expect_point(what, out, 0, 1);
+    }
+}
+
+static void candidate_at_the_radius(void) {
+    const double w[N] = {2 * DBL_EPSILON, 4.0}, zero[N * N] = {0.0}, halves[N] = {0.5, 0.5};
+    const int64_t candidate[N] = {0, 0};
+    const uint64_t budgets[] = {100, 10, 6, 5};
+    expect("case H, nearest", nearest(w, zero, 4, halves, 1.0, 2), SNOWGIMMER_OUTSIDE_RADIUS, 0, 0, 1.0);
+    for (int i = 0; i < 4; i++) {
+        int64_t out[N] = {7, 8};
+        uint32_t number = snowgimmer_nearest_seeded(w, N, zero, N * N, halves, N, out, N, candidate, N, 1.0,
+            budgets[i], &first, &second, &real);
+        expect_case_h("case H, seeded", number, budgets[i], out);
+        out[0] = 7;
+        out[1] = 8;
+        number = snowgimmer_nearest_ml(w, N, zero, N * N, halves, N, out, N, budgets[i], &first, &second, &real);
+        expect_case_h("case H, ml", number, budgets[i], out);
+    }
 }
 
 /* list at radius 2 into so many places */
@@ -294,7 +323,7 @@ static void verdicts(void) {
     }
 }
 
-/* Any other number comes back, with at, whatever the entry. */
+/* Any other number comes back, with at, whatever the entry; also 17, which is no refusal. */
 static void other_numbers(void) {
     const uint32_t numbers[] = {1, 2, 5, 17, UINT32_MAX};
     const double values[] = {0.5, 1e300, HUGE_VAL, NAN};
@@ -489,10 +518,11 @@ static void ratios(void) {
     expect_true("verdict 2^32", strcmp(snowgimmer_verdict_name((uint64_t)1 << 32), "unknown") == 0);
 }
 
+/* 1 and 17 are no refusal of a function. */
 static void names(void) {
     static const char *const all[] = {"Success", "Unknown", "TableSize", "MuNonFinite", "MuRange", "WeightRange",
         "LengthMismatch", "NonFinite", "InvalidRadius", "BudgetRange", "CandidateLength", "CandidateDistance",
-        "CandidateOutside", "WidenedRadius", "ListSize", "BudgetExhausted", "OutsideRadius", "NoSeed", "ListFull",
+        "CandidateOutside", "WidenedRadius", "ListSize", "BudgetExhausted", "OutsideRadius", "Unknown", "ListFull",
         "ReferenceIndex", "ChangedRange", "SettingRange", "Unknown"};
     for (uint32_t number = 0; number < 23; number++) expect_name(number, all[number]);
     expect_name(UINT32_MAX, "Unknown");
@@ -502,6 +532,7 @@ int main(void) {
     searches();
     tables();
     candidates();
+    candidate_at_the_radius();
     lists();
     for (int i = 0; i < 2; i++) found_distances(&rounded[i]);
     no_dimension();

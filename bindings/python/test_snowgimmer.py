@@ -69,6 +69,8 @@ class Cases(Test):
     def test_a_no_dimension(self):
         self.assertEqual(nearest([], [], [], 0, 0), ((), 0, 0.0))
         self.assertEqual(list_points([], [], [], 0, 0), (((0.0, ()),), 0))
+        self.assertEqual(nearest_seeded([], [], [], [], 4, 0), ((), 0, 0.0))
+        self.assertEqual(nearest_ml([], [], [], 0), ((), 0, 0.0))
 
     def test_b_to_d_one_weight(self):
         self.assertEqual(nearest(*B, 0.25, 1), ((1,), 1, 0.25))
@@ -99,6 +101,16 @@ class Cases(Test):
         self.assertEqual(nearest(*H, radius, 4), ((0, 1), 4, 1.0))
         listed = list_points(*H, radius, 6)
         self.assertEqual((len(listed.points), listed.nodes), (4, 6))
+
+    def test_h_a_candidate_at_the_radius(self):
+        """The candidate is at the radius 1, inside which `nearest` finds nothing. Widened it opens 10 prefixes, of
+        which the search, whose radius shrinks, tries 6."""
+        self.assertEqual(list_points(*H, 1 + 2.0**-49, 10).nodes, 10)
+        for budget in 10, 6, 100:
+            self.assertEqual(nearest_seeded(*H, [0, 0], 1, budget), ((0, 1), 6, 1.0))
+            self.assertEqual(nearest_ml(*H, budget), ((0, 1), 6, 1.0))
+        self.refused(BudgetExhausted, {"nodes": 5, "radius": 1.0}, nearest_seeded, *H, [0, 0], 1, 5)
+        self.refused(BudgetExhausted, {"nodes": 5, "radius": 1.0}, nearest_ml, *H, 5)
 
     def test_j_rounding(self):
         self.assertEqual([round_away(x) for x in (0.5, -0.5, -2.5, 2.0**63)], [1, -1, -3, 2**63 - 1])
@@ -144,7 +156,7 @@ class Examples(Test):
     """The examples' jobs, against what the job program prints of them."""
 
     def lines(self, job, settings):
-        """The program's lines, where no search is refused but by 15 to 18."""
+        """The program's lines, where no search is refused but by 15, 16 or 18."""
         (p, q, places), points = settings, ()
         try:
             found = nearest(*job)
@@ -491,10 +503,13 @@ class Refusals(Test):
 
     def test_one_class_a_number(self):
         kinds = snowgimmer.Refusal.__subclasses__()
-        self.assertEqual(sorted(kind.number for kind in kinds), list(range(2, 22)))
+        self.assertEqual(sorted(kind.number for kind in kinds), [*range(2, 17), *range(18, 22)])
         for kind in kinds:
             self.assertIs(getattr(snowgimmer, kind.__name__), kind)
             self.assertIn(kind.__name__, snowgimmer.__all__)
+
+    def test_17_is_free(self):
+        self.assertNotIn(17, snowgimmer.refusals.BY_NUMBER)
 
     def test_names_of_the_header(self):
         with open(os.path.join(HERE, "../../include/snowgimmer.h"), encoding="utf-8") as file:

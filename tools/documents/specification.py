@@ -243,9 +243,11 @@ def check_widened(radius):
 
 # ---- the calls: each answers what it tells, and writes to the lists it is lent
 
-def ended(walk, none, out):
+def search_within(weights, mu, target, out, radius, budget):
+    """The search of all three nearest calls, from the radius. A seeded or ml call never comes to 16."""
+    walk = Walk(weights, mu, target, radius, budget, consider)
     if walk.best is None:
-        raise none
+        raise Refusal(16, radius)
     out[:] = walk.best
     # the radius that stands is the best's distance
     return walk.nodes, walk.standing
@@ -255,7 +257,7 @@ def nearest(weights, mu, target, out, radius, budget):
     check_search(weights, mu, target, out)
     radius = check_radius(radius)
     check_budget(budget)
-    return ended(Walk(weights, mu, target, radius, budget, consider), Refusal(16, radius), out)
+    return search_within(weights, mu, target, out, radius, budget)
 
 
 def nearest_seeded(weights, mu, target, out, candidate, radius, budget):
@@ -271,7 +273,7 @@ def nearest_seeded(weights, mu, target, out, candidate, radius, budget):
         raise Refusal(12, radius)
     wide = widened(n, radius)
     check_widened(wide)
-    return ended(Walk(weights, mu, target, wide, budget, consider), Refusal(17, wide), out)
+    return search_within(weights, mu, target, out, wide, budget)
 
 
 def nearest_ml(weights, mu, target, out, budget):
@@ -281,7 +283,7 @@ def nearest_ml(weights, mu, target, out, budget):
     check_distance(total)
     wide = widened(len(weights), total)
     check_widened(wide)
-    return ended(Walk(weights, mu, target, wide, budget, consider), Refusal(17, wide), out)
+    return search_within(weights, mu, target, out, wide, budget)
 
 
 def list_points(weights, mu, target, distances, points, radius, budget):

@@ -35,7 +35,7 @@ REFUSALS = {
     15: Refusal("BudgetExhausted", "the search took all nodes of the budget and had not ended",
                 "give a larger budget, a smaller radius or a reduced table"),
     16: Refusal("OutsideRadius", "no vector of integers is inside the radius", "give a larger radius"),
-    17: Refusal("NoSeed", "a seeded search found no vector", "none: it is proved that this never comes"),
+    # 17 is free: no call is refused by it, and no other refusal is to get it
     18: Refusal("ListFull", "the radius has more vectors than the list's {places}", "give a smaller radius"),
     19: Refusal("ReferenceIndex", "the new reference satellite's index is not below the point's length",
                 "give the index of a coordinate"),

@@ -57,11 +57,11 @@ from . import library as _library
 from . import values as _values
 from .refusals import (
     BudgetExhausted, BudgetRange, CandidateDistance, CandidateLength, CandidateOutside, ChangedRange, InvalidRadius,
-    LengthMismatch, ListFull, ListSize, MuNonFinite, MuRange, NoSeed, NonFinite, OutsideRadius, ReferenceIndex, Refusal,
+    LengthMismatch, ListFull, ListSize, MuNonFinite, MuRange, NonFinite, OutsideRadius, ReferenceIndex, Refusal,
     SettingRange, TableSize, WeightRange, WidenedRadius)
 from .refusals import refusal as _refusal
 
-__version__ = "0.7.0"
+__version__ = "0.8.0"
 
 LARGEST_DIMENSION = 23
 LARGEST_LIST = 4096
@@ -74,7 +74,7 @@ __all__ = [
     "ListedPoint", "Plane", "Ratio", "LARGEST_DIMENSION", "LARGEST_LIST", "LARGEST_BUDGET", "LARGEST_FACTOR", "Refusal",
     "TableSize", "MuNonFinite", "MuRange", "WeightRange", "LengthMismatch", "NonFinite", "InvalidRadius", "BudgetRange",
     "CandidateLength", "CandidateDistance", "CandidateOutside", "WidenedRadius", "ListSize", "BudgetExhausted",
-    "OutsideRadius", "NoSeed", "ListFull", "ReferenceIndex", "ChangedRange", "SettingRange",
+    "OutsideRadius", "ListFull", "ReferenceIndex", "ChangedRange", "SettingRange",
 ]
 
 _loaded = _library.load()
@@ -192,8 +192,10 @@ def nearest(weights, mu, target, radius, budget):
 def nearest_seeded(weights, mu, target, candidate, radius, budget):
     """The nearest integer vector, a candidate inside the radius being known, as a `Nearest`.
 
-    The radius and the distance are squares. The search is inside radius + (2**-52 * max(radius, 1)) * 4n, so that the
-    candidate itself is found at least.
+    The radius and the distance are squares. The search is inside radius + (2**-52 * max(radius, 1)) * 4n, the widened
+    radius, so that the candidate itself is found at least. Once the checks have passed it ends with a point or with
+    BudgetExhausted, and always with a point if the budget is at least the number of nodes that `list_points` takes at
+    the widened radius.
     Raises 2 to 9 for the table and the arguments, 10 to 13 for the candidate and its radius, and BudgetExhausted.
     """
     table = _Table(weights, mu, target)
@@ -206,7 +208,9 @@ def nearest_seeded(weights, mu, target, candidate, radius, budget):
 def nearest_ml(weights, mu, target, budget):
     """The nearest integer vector of all, from the nearest-plane point as candidate, as a `Nearest`.
 
-    The distance is a square.
+    The distance is a square. The search is inside the candidate's distance, widened as in `nearest_seeded`. Once the
+    checks have passed it ends with a point or with BudgetExhausted, and always with a point if the budget is at least
+    the number of nodes that `list_points` takes at the widened radius.
     Raises 2 to 7 and 9 for the table and the arguments, 11 and 13 if a distance overflows, and BudgetExhausted.
     """
     table = _Table(weights, mu, target)

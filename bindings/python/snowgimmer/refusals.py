@@ -5,7 +5,7 @@ class Refusal(Exception):
     """A call that the library refused.
 
     `number` is the refusal's number, `name` its name and `values` what it carries, by name; each value is also an
-    attribute. Each number has a class of its own below.
+    attribute. Each number has a class of its own below; 17 is free, and no refusal has it.
 
     No value is minus zero: where 12, 15 and 16 gave a radius of minus zero back before 0.5.0, they give 0.0.
     """
@@ -158,14 +158,6 @@ class OutsideRadius(Refusal):
     number = 16
     fields = ("radius",)
     sentence = "no vector is inside the radius {radius}: a larger one may do"
-
-
-class NoSeed(Refusal):
-    """17: a seeded or ml search found nothing inside the widened radius. It is proved that this never comes."""
-
-    number = 17
-    fields = ("radius",)
-    sentence = "no vector is inside the widened radius {radius}"
 
 
 class ListFull(Refusal):

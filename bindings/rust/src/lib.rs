@@ -159,6 +159,9 @@ pub fn nearest(
 /// `out` and gives the number of nodes and the vector's distance. The radius and the distance are squares; widened the
 /// radius is radius + (2^-52·max(radius, 1))·4n.
 ///
+/// Once the checks have passed it ends with a point or with [`Refusal::BudgetExhausted`], and always with a point if
+/// the budget is at least the number of nodes that a [`list`] takes at the widened radius.
+///
 /// ```
 /// let mut out = [0];
 /// let found = snowgimmer::nearest_seeded(&[1.0], &[0.0], &[0.5], &mut out, &[2], 2.25, 100)?;
@@ -168,8 +171,7 @@ pub fn nearest(
 ///
 /// # Errors
 ///
-/// 2 to 9, the table and the call; 10 to 13, the candidate and the radius; [`Refusal::BudgetExhausted`];
-/// [`Refusal::NoSeed`].
+/// 2 to 9, the table and the call; 10 to 13, the candidate and the radius; [`Refusal::BudgetExhausted`].
 pub fn nearest_seeded(
     weights: &[f64],
     mu: &[f64],
@@ -203,7 +205,11 @@ pub fn nearest_seeded(
 }
 
 /// Finds the nearest integer vector, writes it to `out` and gives the number of nodes and the vector's distance, a
-/// square. The candidate is the nearest-plane point, and the radius that point's distance.
+/// square. The candidate is the nearest-plane point, and the radius that point's distance, widened as in
+/// [`nearest_seeded`].
+///
+/// Once the checks have passed it ends with a point or with [`Refusal::BudgetExhausted`], and always with a point if
+/// the budget is at least the number of nodes that a [`list`] takes at the widened radius.
 ///
 /// ```
 /// let mut out = [0];
@@ -214,8 +220,7 @@ pub fn nearest_seeded(
 ///
 /// # Errors
 ///
-/// 2 to 7 and 9, the table and the call; 11 and 13, the candidate's distance; [`Refusal::BudgetExhausted`];
-/// [`Refusal::NoSeed`].
+/// 2 to 7 and 9, the table and the call; 11 and 13, the candidate's distance; [`Refusal::BudgetExhausted`].
 pub fn nearest_ml(weights: &[f64], mu: &[f64], target: &[f64], out: &mut [i64], budget: u64) -> Result<Found, Refusal> {
     // SAFETY: live slices with their own lengths, and `out` is no other's (see the crate's head)
     let report = told(|r| unsafe {

@@ -3,7 +3,8 @@
 use core::error::Error;
 use core::fmt;
 
-/// Why a call was refused. Its number is that of the library's header; `Display` gives a sentence.
+/// Why a call was refused. Its number is that of the library's header, where 17 is free: no refusal has it. `Display`
+/// gives a sentence.
 ///
 /// No value is minus zero: where 12, 15 and 16 gave a radius of minus zero back before 0.5.0, they give 0.
 #[derive(Debug, Clone, Copy, PartialEq)]
@@ -90,11 +91,6 @@ pub enum Refusal {
         /// The radius.
         radius: f64,
     },
-    /// 17: a seeded or ml search found nothing inside the widened radius. It is proved that this never comes.
-    NoSeed {
-        /// The widened radius.
-        radius: f64,
-    },
     /// 18: more points than places.
     ListFull {
         /// How many points there are.
@@ -134,7 +130,6 @@ impl Refusal {
             14 => Self::ListSize { distances: a },
             15 => Self::BudgetExhausted { nodes: first, radius: real },
             16 => Self::OutsideRadius { radius: real },
-            17 => Self::NoSeed { radius: real },
             18 => Self::ListFull { points: a },
             19 => Self::ReferenceIndex,
             20 => Self::ChangedRange { index: a },
@@ -162,7 +157,6 @@ impl Refusal {
             Self::ListSize { .. } => 14,
             Self::BudgetExhausted { .. } => 15,
             Self::OutsideRadius { .. } => 16,
-            Self::NoSeed { .. } => 17,
             Self::ListFull { .. } => 18,
             Self::ReferenceIndex => 19,
             Self::ChangedRange { .. } => 20,
@@ -207,7 +201,6 @@ impl fmt::Display for Refusal {
             Self::OutsideRadius { radius } => {
                 write!(f, "no vector is inside the radius {radius:?}: a larger one may do")
             }
-            Self::NoSeed { radius } => write!(f, "no vector is inside the widened radius {radius:?}"),
             Self::ListFull { points } => {
                 write!(f, "the list has {points} points: lend as many places, or lower the radius")
             }

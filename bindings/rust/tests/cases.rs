@@ -58,6 +58,8 @@ fn a_no_dimension() {
     let none = Bench { weights: &[], mu: &[], target: &[] };
     assert_eq!(none.nearest(0.0, 0), Ok((vec![], 0, 0.0)));
     assert_eq!(none.list(0.0, 0), Ok((0, vec![(0.0, vec![])])));
+    assert_eq!(none.seeded(&[], 4.0, 0), Ok((vec![], 0, 0.0)));
+    assert_eq!(none.ml(0), Ok((vec![], 0, 0.0)));
 }
 
 #[test]
@@ -89,6 +91,17 @@ fn h_and_i_equal_distances() {
     assert_eq!(H.nearest(radius, 4), Ok((vec![0, 1], 4, 1.0)));
     let (nodes, points) = H.list(radius, 6).unwrap();
     assert_eq!((nodes, points.len()), (6, 4));
+}
+
+/// The candidate is at the radius 1, inside which `nearest` finds nothing. Widened it opens 10 prefixes, of which the
+/// search, whose radius shrinks, tries 6.
+#[test]
+fn h_a_candidate_at_the_radius() {
+    assert_eq!(H.list(1.0 + 8.0 * f64::EPSILON, 10).unwrap().0, 10);
+    for budget in [10, 6, 100] {
+        assert_eq!(H.seeded(&[0, 0], 1.0, budget), Ok((vec![0, 1], 6, 1.0)));
+        assert_eq!(H.ml(budget), Ok((vec![0, 1], 6, 1.0)));
+    }
 }
 
 #[test]

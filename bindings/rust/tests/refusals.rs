@@ -1,5 +1,5 @@
-//! Each number but 17, with its values, and that a refusal leaves every lent slice as it was: NaNs, which the proofs do
-//! not tell apart, by their bits.
+//! Each number, with its values, and that a refusal leaves every lent slice as it was: NaNs, which the proofs do not
+//! tell apart, by their bits.
 
 use snowgimmer::{
     Refusal, change_reference, list, nearest, nearest_ml, nearest_plane, nearest_seeded, ratio, round,
@@ -83,6 +83,12 @@ fn searches() {
     assert_eq!(budget(1), Refusal::BudgetExhausted { nodes: 1, radius: 0.25 });
     let outside = kept(1, |out| nearest(&[4.0], &[0.0], &[0.75], out, 0.125, 0));
     assert_eq!(outside, Refusal::OutsideRadius { radius: 0.125 });
+    // case H, which takes 6 nodes
+    let weights = [f64::EPSILON * 2.0, 4.0];
+    let seeded = kept(2, |out| nearest_seeded(&weights, &[0.0; 4], &[0.5; 2], out, &[0, 0], 1.0, 5));
+    assert_eq!(seeded, Refusal::BudgetExhausted { nodes: 5, radius: 1.0 });
+    let ml = kept(2, |out| nearest_ml(&weights, &[0.0; 4], &[0.5; 2], out, 5));
+    assert_eq!(ml, Refusal::BudgetExhausted { nodes: 5, radius: 1.0 });
 }
 
 #[test]
@@ -263,6 +269,6 @@ fn told_in_words() {
         "refused 21: p is not from 1 to 1000, or it is below q: give p and q from 1 to 1000, p at least q",
     );
     told(Refusal::SettingRange { index: 1 }, "refused 21: q is not from 1 to 1000: give one from 1 to p");
-    let error: &dyn std::error::Error = &Refusal::NoSeed { radius: 1.0 };
-    assert_eq!(error.to_string(), "refused 17: no vector is inside the widened radius 1.0");
+    let error: &dyn std::error::Error = &Refusal::OutsideRadius { radius: 1.0 };
+    assert_eq!(error.to_string(), "refused 16: no vector is inside the radius 1.0: a larger one may do");
 }

@@ -13,9 +13,9 @@ use Rattle.definitions.specs.Walk.{Walked, ended, exhausted}
 use Rattle.definitions.specs.Nearest.{no-best, best, nearestWalk}
 use Rattle.definitions.specs.Listing.{ListPoint, listWalk, sorted}
 use Rattle.definitions.specs.Seeds.{widened}
-use Rattle.definitions.specs.Refusals.{Refusal, budgetExhausted, outsideRadius, noSeed, listFull}
+use Rattle.definitions.specs.Refusals.{Refusal, budgetExhausted, outsideRadius, listFull}
 use Rattle.definitions.specs.Checks.{Verdict, pass, refuse, firstRefusal, handedOn}
-use Rattle.definitions.specs.Calls.{Answer, found, refused, after, NearestPoint, endOfNearest, checksOfNearest, nearestChecks, nearest, widenedSearch, checksOfSeeded, seededChecks, nearestSeeded, mlRadius, checksOfMl, mlChecks, nearestMl, nearestOutput, ListAnswer, endOfList, checksOfList, listChecks, list, written, coordinates, listDistances, listPoints, checksOfRound, round, checksOfPlane, plane}
+use Rattle.definitions.specs.Calls.{Answer, found, refused, after, NearestPoint, endOfNearest, nearestWithin, checksOfNearest, nearestChecks, nearest, widenedSearch, checksOfSeeded, seededChecks, nearestSeeded, mlRadius, checksOfMl, mlChecks, nearestMl, nearestOutput, ListAnswer, endOfList, checksOfList, listChecks, list, written, coordinates, listDistances, listPoints, checksOfRound, round, checksOfPlane, plane}
 
 pub after-pass : {A : Type 0} (v : Verdict) (a : Answer A) → v ≡ pass → after v a ≡ a
 unfolding after
@@ -36,19 +36,23 @@ pub found-passed : {A : Type 0} (v : Verdict) (a : Answer A) (x : A) → after v
 found-passed pass a x e = (refl, sym (after-pass pass a refl) ∙ e)
 found-passed (refuse r) a x e = absurd (found≢refused (sym e ∙ after-refuse (refuse r) a r refl))
 
--- ---- how a nearest search ends
-module _ (none : Refusal) where
-  pub end-exhausted : (m : ℕ) (R : Float) → endOfNearest none (exhausted m R) ≡ refused (budgetExhausted m R)
+-- ---- how a nearest search from R ends
+module _ (R : Float) where
+  pub end-exhausted : (m : ℕ) (S : Float) → endOfNearest R (exhausted m S) ≡ refused (budgetExhausted m S)
   unfolding endOfNearest
-  end-exhausted m R = refl
+  end-exhausted m S = refl
 
-  pub end-nothing : (R : Float) (m : ℕ) → endOfNearest none (ended no-best R m) ≡ refused none
+  pub end-nothing : (S : Float) (m : ℕ) → endOfNearest R (ended no-best S m) ≡ refused (outsideRadius R)
   unfolding endOfNearest
-  end-nothing R m = refl
+  end-nothing S m = refl
 
-  pub end-point : (zs : List ℤ) (R : Float) (m : ℕ) → endOfNearest none (ended (best zs) R m) ≡ found (record { nodes = m; distance = R; point = zs })
+  pub end-point : (zs : List ℤ) (S : Float) (m : ℕ) → endOfNearest R (ended (best zs) S m) ≡ found (record { nodes = m; distance = S; point = zs })
   unfolding endOfNearest
-  end-point zs R m = refl
+  end-point zs S m = refl
+
+pub within-is : (t : Table) (target : List Float) (R : Float) (budget : ℕ) → nearestWithin t target R budget ≡ endOfNearest R (nearestWalk t target R budget)
+unfolding nearestWithin
+within-is t target R budget = refl
 
 pub output-found : (a : NearestPoint) (out : List ℤ) → nearestOutput (found a) out ≡ a .point
 unfolding nearestOutput
@@ -63,18 +67,18 @@ module _ (t : Table) (target : List Float) (out : List ℤ) (R : Float) (budget 
   unfolding nearestChecks
   nearest-checks-are = refl
 
-  pub nearest-is : nearest t target out R budget ≡ after (nearestChecks largestDimension t target out R budget) (endOfNearest (outsideRadius (handedOn R)) (nearestWalk t target (handedOn R) budget))
+  pub nearest-is : nearest t target out R budget ≡ after (nearestChecks largestDimension t target out R budget) (nearestWithin t target (handedOn R) budget)
   unfolding nearest
   nearest-is = refl
 
-  pub nearest-checked : nearestChecks largestDimension t target out R budget ≡ pass → nearest t target out R budget ≡ endOfNearest (outsideRadius (handedOn R)) (nearestWalk t target (handedOn R) budget)
-  nearest-checked q = nearest-is ∙ after-pass (nearestChecks largestDimension t target out R budget) (endOfNearest (outsideRadius (handedOn R)) (nearestWalk t target (handedOn R) budget)) q
+  pub nearest-checked : nearestChecks largestDimension t target out R budget ≡ pass → nearest t target out R budget ≡ nearestWithin t target (handedOn R) budget
+  nearest-checked q = nearest-is ∙ after-pass (nearestChecks largestDimension t target out R budget) (nearestWithin t target (handedOn R) budget) q
 
   pub nearest-refused : (e : Refusal) → nearestChecks largestDimension t target out R budget ≡ refuse e → nearest t target out R budget ≡ refused e
-  nearest-refused e q = nearest-is ∙ after-refuse (nearestChecks largestDimension t target out R budget) (endOfNearest (outsideRadius (handedOn R)) (nearestWalk t target (handedOn R) budget)) e q
+  nearest-refused e q = nearest-is ∙ after-refuse (nearestChecks largestDimension t target out R budget) (nearestWithin t target (handedOn R) budget) e q
 
--- ---- seeded and ml: the walk at the widened radius
-pub widened-search-is : (t : Table) (target : List Float) (R : Float) (budget : ℕ) → widenedSearch t target R budget ≡ endOfNearest (noSeed (widened (dimension t) R)) (nearestWalk t target (widened (dimension t) R) budget)
+-- ---- seeded and ml: the search of `nearest` at the widened radius
+pub widened-search-is : (t : Table) (target : List Float) (R : Float) (budget : ℕ) → widenedSearch t target R budget ≡ nearestWithin t target (widened (dimension t) R) budget
 unfolding widenedSearch
 widened-search-is t target R budget = refl
 

@@ -12,7 +12,7 @@ use Rattle.definitions.specs.Table.{Table, plusZero, minusZero, one, coo
 use Rattle.definitions.specs.Distance.{partial}
 use Rattle.definitions.specs.Admitted.{admitted}
 use Rattle.definitions.specs.Listing.{ListPoint}
-use Rattle.definitions.specs.Refusals.{muNonFinite, muRange, outsideRadius, budgetExhausted, nonFinite, invalidRadius, candidateOutside, budgetRange, referenceIndex, changedRange, settingRange}
+use Rattle.definitions.specs.Refusals.{muNonFinite, muRange, outsideRadius, budgetExhausted, listFull, nonFinite, invalidRadius, candidateOutside, budgetRange, referenceIndex, changedRange, settingRange}
 use Rattle.definitions.specs.Checks.{Verdict, pass, refuse, firstRefusal, tableChecks}
 use Rattle.definitions.specs.Entries.{Entry, entryOf, fedAll}
 use Rattle.definitions.specs.Calls.{Answer, found, refused, NearestPoint, ListAnswer, nearest, nearestSeeded, nearestMl, list}
@@ -43,6 +43,10 @@ quarter = over 1 1
 -- 1 + 2^-52
 abbrev aboveOne : Float
 aboveOne = over (2 ^ 52 + 1) 51
+
+-- 1 + 8·2^-52, to which a radius of 1 is widened at n = 2
+abbrev widenedOne : Float
+widenedOne = over (2 ^ 49 + 1) 48
 
 -- ---- the cases' tables
 
@@ -131,6 +135,13 @@ nearestCases =
     ∷ nearest tableDistance targetDistance out3 aboveOne 100
     ∷ nearestSeeded tableDistance targetDistance out3 (pos 1 ∷ pos 1 ∷ pos 1 ∷ []) aboveOne 100
     ∷ nearestMl tableDistance targetDistance out3 100
+    -- H from a candidate at its radius: unwidened nothing would be found. The widened radius opens 10 prefixes, and the walk takes 6 nodes
+    ∷ nearestSeeded tableH targetH out2 (pos 0 ∷ pos 0 ∷ []) one 10
+    ∷ nearestSeeded tableH targetH out2 (pos 0 ∷ pos 0 ∷ []) one 6
+    ∷ nearestSeeded tableH targetH out2 (pos 0 ∷ pos 0 ∷ []) one 5
+    ∷ nearestSeeded tableH targetH out2 (pos 0 ∷ pos 0 ∷ []) one 0
+    ∷ nearestMl tableH targetH out2 6
+    ∷ nearest tableH targetH out2 widenedOne 6
     ∷ []
 
 abbrev nearestAnswers : List (Answer NearestPoint)
@@ -155,6 +166,12 @@ nearestAnswers =
     ∷ at 6 one (pos 0 ∷ pos 1 ∷ pos 1 ∷ [])
     ∷ at 14 one (pos 0 ∷ pos 1 ∷ pos 1 ∷ [])
     ∷ at 10 one (pos 0 ∷ pos 1 ∷ pos 1 ∷ [])
+    ∷ at 6 one (pos 0 ∷ pos 1 ∷ [])
+    ∷ at 6 one (pos 0 ∷ pos 1 ∷ [])
+    ∷ refused (budgetExhausted 5 one)
+    ∷ refused (budgetExhausted 0 widenedOne)
+    ∷ at 6 one (pos 0 ∷ pos 1 ∷ [])
+    ∷ at 6 one (pos 0 ∷ pos 1 ∷ [])
     ∷ []
 
 -- ---- list
@@ -165,6 +182,8 @@ listCases =
     ∷ list tableG targetG places places2 two 100
     ∷ list tableH targetH places places2 aboveOne 6
     ∷ list tableH targetH places places2 aboveOne 4
+    ∷ list tableH targetH places places2 widenedOne 10
+    ∷ list tableH targetH places places2 widenedOne 9
     ∷ []
 
 abbrev listAnswers : List (Answer ListAnswer)
@@ -174,6 +193,8 @@ listAnswers =
     ∷ listed 7 (away quarter (pos 0 ∷ pos 1 ∷ []) ∷ away half (pos 0 ∷ pos 0 ∷ []) ∷ away half (pos 1 ∷ pos 0 ∷ []) ∷ away (over 5 1) (negsuc 0 ∷ pos 1 ∷ []) ∷ away (over 5 1) (pos 1 ∷ pos 1 ∷ []) ∷ [])
     ∷ listed 6 (away one (pos 0 ∷ pos 0 ∷ []) ∷ away one (pos 0 ∷ pos 1 ∷ []) ∷ away one (pos 1 ∷ pos 0 ∷ []) ∷ away one (pos 1 ∷ pos 1 ∷ []) ∷ [])
     ∷ refused (budgetExhausted 4 aboveOne)
+    ∷ refused (listFull 8)
+    ∷ refused (budgetExhausted 9 widenedOne)
     ∷ []
 
 -- ---- H and I: four vectors at distance 1

@@ -9,7 +9,7 @@ use lib.IntN.{ℤ}
 use lib.Ieee.{Float, binary64, fits, le, lt, eq}
 use lib.Ieee.Scale.{finite}
 use Rattle.rounding.specs.Kinds.{Finite, NonNegative}
-use Rattle.rounding.proofs.Interface.{number, held, plus-is-zero, minus-is-zero, minus-to-plus, never-minus, plus-zero-stays, zero-passes, plus-zero-above, plus-zero-below, plus-zero-finite, plus-zero-nonneg}
+use Rattle.rounding.proofs.Interface.{number, held, plus-is-zero, minus-is-zero, minus-to-plus, never-minus, plus-zero-stays, plus-stays, zero-passes, plus-zero-above, plus-zero-below, plus-zero-finite, plus-zero-nonneg}
 use Rattle.definitions.specs.Table.{Table, plusZero, minusZero}
 use Rattle.definitions.specs.Refusals.{invalidRadius}
 use Rattle.definitions.specs.Checks.{pass, refuseIf, notFinite, radiusCheck, handedOn}
@@ -41,6 +41,10 @@ module _ (R : Float) (double : T (fits binary64 R)) (passed : radiusCheck R ≡ 
 
   pub handed-on-below : T (le (handedOn R) R)
   handed-on-below = plus-zero-below R (number own-finite)
+
+-- one that has the sign plus is handed on as it is
+pub plus-handed-on : (R : Float) → NonNegative binary64 R → handedOn R ≡ R
+plus-handed-on R p = plus-stays R p
 
 -- ---- handed on once more
 check-again : (R : Float) → radiusCheck (handedOn R) ≡ radiusCheck R

@@ -1,9 +1,9 @@
 -- What the checks of `round`, `nearest_plane` and the searches leave of the lengths where they pass, and what a refusal leaves in the slices. Assumes nothing.
 use mathlib.Core.Path.{_≡_, refl, sym, ap, _∙_}
-use mathlib.Core.Bool.{Bool, true, false, not, _&&_, false≢true}
+use mathlib.Core.Bool.{Bool, true, false, not, _&&_, _||_, false≢true}
 use mathlib.Core.List.{List, [], _∷_, _++_}
 use Prim.Native.Nat.{ℕ, _*_, _≤_}
-use borrow.Author.Tests.{eqb-true, ltb-false, not-false}
+use borrow.Author.Tests.{eqb-true, ltb-false, le-ltb, not-false}
 use lib.Dec.{eqb, ltb}
 use lib.ListN.{length}
 use lib.IntN.{ℤ}
@@ -96,8 +96,15 @@ pub radius-passed : (R : Float) → radiusCheck R ≡ pass → (notFinite R ≡ 
 unfolding radiusCheck
 radius-passed R q = neither (notFinite R) (lt R plusZero) (invalidRadius R) q
 
+pub radius-passes : (R : Float) → notFinite R ≡ false → lt R plusZero ≡ false → radiusCheck R ≡ pass
+unfolding radiusCheck
+radius-passes R finite plus = ap (λ (b : Bool). refuseIf (b || lt R plusZero) (invalidRadius R)) finite ∙ ap (λ (b : Bool). refuseIf b (invalidRadius R)) plus
+
 pub budget-passed : (budget : ℕ) → budgetCheck budget ≡ pass → budget ≤ largestBudget
 budget-passed budget q = ltb-false largestBudget budget (neither false (ltb largestBudget budget) (budgetRange budget) q .1)
+
+pub budget-passes : (budget : ℕ) → budget ≤ largestBudget → budgetCheck budget ≡ pass
+budget-passes budget few = ap (λ (b : Bool). refuseIf b (budgetRange budget)) (le-ltb largestBudget budget few)
 
 -- what a search's checks leave, with the budget's
 pub walk-shaped : {largest : ℕ} {t : Table} {target : List Float} {out : List ℤ} → SearchPassed largest t target out → (budget : ℕ) → budget ≤ largestBudget → WalkShaped largest (t .weights) (t .mu) target out budget

@@ -12,7 +12,7 @@ use Rattle.definitions.specs.Walk.{Walked, ended, exhausted}
 use Rattle.definitions.specs.Nearest.{Best, no-best, best, nearestWalk}
 use Rattle.definitions.specs.Listing.{ListPoint, listWalk, sorted}
 use Rattle.definitions.specs.Seeds.{rounded, nearestPlane, widened}
-use Rattle.definitions.specs.Refusals.{Refusal, budgetExhausted, outsideRadius, noSeed, listFull}
+use Rattle.definitions.specs.Refusals.{Refusal, budgetExhausted, outsideRadius, listFull}
 use Rattle.definitions.specs.Checks.{Verdict, pass, refuse, firstRefusal, tableChecks, lengthCheck, planeLengthCheck, targetCheck, finiteCheck, radiusCheck, handedOn, budgetCheck, candidateLengthCheck, candidateDistanceCheck, candidateOutsideCheck, widenedRadiusCheck, listSizeCheck}
 
 pub data Answer (A : Type 0) : Type 0 where
@@ -32,11 +32,16 @@ pub record NearestPoint : Type 0 where
   pub distance : Float
   pub point : List ℤ
 
--- how a call ends by its walk; `none` is the refusal if nothing was found. The radius that stands with a best is the best's distance.
-unfoldable pub endOfNearest : Refusal → Walked Best → Answer NearestPoint
-endOfNearest none (exhausted nodes standing) = refused (budgetExhausted nodes standing)
-endOfNearest none (ended no-best standing nodes) = refused none
-endOfNearest none (ended (best zs) standing nodes) = found (record { nodes = nodes; distance = standing; point = zs })
+-- how a search from R ends by its walk: 16 if nothing was found. The radius that stands with a best is the best's distance.
+unfoldable pub endOfNearest : Float → Walked Best → Answer NearestPoint
+endOfNearest R (exhausted nodes standing) = refused (budgetExhausted nodes standing)
+endOfNearest R (ended no-best standing nodes) = refused (outsideRadius R)
+endOfNearest R (ended (best zs) standing nodes) = found (record { nodes = nodes; distance = standing; point = zs })
+
+-- the search of all three, once their checks have passed: the walk from R
+unfoldable pub nearestWithin : Table → List Float → Float → ℕ → Answer NearestPoint
+unfolding endOfNearest nearestWalk
+nearestWithin t target R budget = endOfNearest R (nearestWalk t target R budget)
 
 -- 2 to 5, then 6 (target, then output) and 7, with the largest n given
 unfoldable pub searchChecks : ℕ → Table → List Float → List ℤ → List Verdict
@@ -53,18 +58,16 @@ unfoldable pub nearestChecks : ℕ → Table → List Float → List ℤ → Flo
 unfolding firstRefusal searchChecks radiusCheck
 nearestChecks largest t target out R budget = firstRefusal (checksOfNearest largest t target out R budget)
 
--- `nearest`: 16 if nothing was found
+-- `nearest`
 unfoldable pub nearest : Table → List Float → List ℤ → Float → ℕ → Answer NearestPoint
-unfolding after nearestChecks endOfNearest nearestWalk
+unfolding after nearestChecks nearestWithin
 nearest t target out R budget =
-    after (nearestChecks largestDimension t target out R budget)
-    (endOfNearest (outsideRadius (handedOn R)) (nearestWalk t target (handedOn R) budget))
+    after (nearestChecks largestDimension t target out R budget) (nearestWithin t target (handedOn R) budget)
 
--- the search of a seeded or ml call, which starts at the widened radius: 17 if nothing was found
+-- the search of a seeded or ml call: that of `nearest`, at the widened radius
 unfoldable pub widenedSearch : Table → List Float → Float → ℕ → Answer NearestPoint
-unfolding widened endOfNearest nearestWalk
-widenedSearch t target R budget =
-    let radius = widened (dimension t) R in endOfNearest (noSeed radius) (nearestWalk t target radius budget)
+unfolding widened nearestWithin
+widenedSearch t target R budget = nearestWithin t target (widened (dimension t) R) budget
 
 -- 2 to 9, then 10 to 13
 abbrev pub checksOfSeeded : ℕ → Table → List Float → List ℤ → List ℤ → Float → ℕ → List Verdict

@@ -76,9 +76,7 @@ budgetExhausted nodes standing = record { number = 15; values = whole nodes ∷ 
 abbrev pub outsideRadius : Float → Refusal
 outsideRadius radius = record { number = 16; values = real radius ∷ [] }
 
--- 17 (the widened radius)
-abbrev pub noSeed : Float → Refusal
-noSeed radius = record { number = 17; values = real radius ∷ [] }
+-- 17 is free: no refusal has it, and none is to be given it
 
 -- 18 (the number of points)
 abbrev pub listFull : ℕ → Refusal

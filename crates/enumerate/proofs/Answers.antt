@@ -2,9 +2,10 @@
 use mathlib.Core.Path.{_≡_, ap, sym, _∙_, subst}
 use mathlib.Core.List.{List}
 use lib.IntN.{ℤ}
+use lib.Ieee.{Float}
 use Rattle.definitions.specs.Walk.{Walked, ended, exhausted}
 use Rattle.definitions.specs.Nearest.{Best, no-best, best}
-use Rattle.definitions.specs.Refusals.{Refusal, budgetExhausted}
+use Rattle.definitions.specs.Refusals.{budgetExhausted, outsideRadius}
 use Rattle.definitions.specs.Calls.{Answer, refused, NearestPoint, endOfNearest, nearestOutput}
 use Rattle.definitions.proofs.Answers.{end-exhausted, end-nothing, end-point, output-found, output-refused}
 use Rattle.refusals.specs.Numbers.{numbered}
@@ -14,10 +15,10 @@ use Rattle.enumerate.specs.declared.NearestAnswer.the-variants.{Refused}
 use Rattle.enumerate.specs.View.{walkOutput, NearestAnswered}
 
 -- a walk's end leaves what its answer does
-pub output-walked : (none : Refusal) (w : Walked Best) (out : List ℤ) → walkOutput w out ≡ nearestOutput (endOfNearest none w) out
-output-walked none (exhausted m R) out = sym (ap (λ (a : Answer NearestPoint). nearestOutput a out) (end-exhausted none m R) ∙ output-refused (budgetExhausted m R) out)
-output-walked none (ended no-best R m) out = sym (ap (λ (a : Answer NearestPoint). nearestOutput a out) (end-nothing none R m) ∙ output-refused none out)
-output-walked none (ended (best zs) R m) out = sym (ap (λ (a : Answer NearestPoint). nearestOutput a out) (end-point none zs R m) ∙ output-found (record { nodes = m; distance = R; point = zs }) out)
+pub output-walked : (R : Float) (w : Walked Best) (out : List ℤ) → walkOutput w out ≡ nearestOutput (endOfNearest R w) out
+output-walked R (exhausted m S) out = sym (ap (λ (a : Answer NearestPoint). nearestOutput a out) (end-exhausted R m S) ∙ output-refused (budgetExhausted m S) out)
+output-walked R (ended no-best S m) out = sym (ap (λ (a : Answer NearestPoint). nearestOutput a out) (end-nothing R S m) ∙ output-refused (outsideRadius R) out)
+output-walked R (ended (best zs) S m) out = sym (ap (λ (a : Answer NearestPoint). nearestOutput a out) (end-point R zs S m) ∙ output-found (record { nodes = m; distance = S; point = zs }) out)
 
 -- a refusal leaves the slice
 pub answered-refused : {a : Answer NearestPoint} (e : CodeRefusal) (out : List ℤ) → a ≡ refused (numbered e) → NearestAnswered a out (Refused e) out

@@ -7,7 +7,6 @@ ghost use Rattle.definitions.specs.Shapes.{WalkShaped};
 ghost use Rattle.definitions.specs.Lent.{atEntry, atExit, tableAt};
 ghost use Rattle.definitions.specs.Nearest.{nearestWalk};
 ghost use Rattle.definitions.specs.Calls as C;
-ghost use Rattle.refusals.specs.Numbers.{numbered};
 ghost use Rattle.enumerate.specs.View.{walkedOf, nearestAnswer, NearestWalked, NearestAnswered};
 use checks::handed_on;
 use checks::nearest_check;
@@ -81,23 +80,23 @@ fn nearest_walk(
     Ending::Point(end.nodes, end.radius)
 }
 
-// The answer that a walk's end gives, `none` being the refusal where nothing was found.
-fn answer_of(end: Ending, none: Refusal) -> NearestAnswer
-    ensures { λ r. ⌜ ((out : List ℤ) → nearestAnswer r out ≡ C.endOfNearest (numbered none) (walkedOf end out)) ⌝ }
+// The answer that the end of a walk from a radius gives.
+fn answer_of(end: Ending, radius: f64) -> NearestAnswer
+    ensures { λ r. ⌜ ((out : List ℤ) → nearestAnswer r out ≡ C.endOfNearest radius (walkedOf end out)) ⌝ }
 {
     match end {
         Ending::Point(nodes, distance) => {
             return NearestAnswer::Found(NearestPoint { nodes, distance });
         }
-        Ending::Nothing(_, _) => return NearestAnswer::Refused(none),
-        Ending::Exhausted(nodes, radius) => {
-            return NearestAnswer::Refused(Refusal::BudgetExhausted(nodes, radius));
+        Ending::Nothing(_, _) => return NearestAnswer::Refused(Refusal::OutsideRadius(radius)),
+        Ending::Exhausted(nodes, standing) => {
+            return NearestAnswer::Refused(Refusal::BudgetExhausted(nodes, standing));
         }
     }
 }
 
-// The search of `nearest`, `nearest_seeded` and `nearest_ml` once their checks have passed: the walk from a radius, and
-// `none` as the refusal where it finds nothing. A point found goes to out; otherwise out is left as it was.
+// The search of `nearest`, `nearest_seeded` and `nearest_ml` once their checks have passed: the walk from a radius. A
+// point found goes to out; otherwise out is left as it was.
 pub fn nearest_within(
     weights: &[f64],
     mu: &[f64],
@@ -105,13 +104,12 @@ pub fn nearest_within(
     out: &mut [i64],
     radius: f64,
     budget: u64,
-    none: Refusal,
 ) -> NearestAnswer
     requires { ⌜ WalkShaped largestDimension (now weights) (now mu) (now target) (now out) budget ⌝ }
-    ensures { λ r. ⌜ NearestAnswered (C.endOfNearest (numbered none) (nearestWalk (tableAt weights mu) (atEntry target) radius budget)) (atEntry out) r (atExit out) ⌝ }
+    ensures { λ r. ⌜ NearestAnswered (C.nearestWithin (tableAt weights mu) (atEntry target) radius budget) (atEntry out) r (atExit out) ⌝ }
 {
     let end = nearest_walk(weights, mu, target, out, radius, budget);
-    answer_of(end, none)
+    answer_of(end, radius)
 }
 
 // Finds the nearest integer vector inside the radius and writes it to out, coordinate 0 first; tells the nodes and the
@@ -134,6 +132,5 @@ pub fn nearest(
         return NearestAnswer::Refused(e);
     }
     let start = handed_on(radius);
-    let none = Refusal::OutsideRadius(start);
-    nearest_within(weights, mu, target, out, start, budget, none)
+    nearest_within(weights, mu, target, out, start, budget)
 }

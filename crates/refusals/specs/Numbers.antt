@@ -8,7 +8,7 @@ use Rattle.definitions.specs.Table.{plusZero}
 use Rattle.definitions.specs.Refusals as D
 use Rattle.definitions.specs.Checks.{Verdict as DVerdict, pass, refuse}
 use Rattle.refusals.specs.declared.Refusal.{Refusal}
-use Rattle.refusals.specs.declared.Refusal.the-variants.{TableSize, MuNonFinite, MuRange, WeightRange, LengthMismatch, NonFinite, InvalidRadius, BudgetRange, CandidateLength, CandidateDistance, CandidateOutside, WidenedRadius, ListSize, BudgetExhausted, OutsideRadius, NoSeed, ListFull, ReferenceIndex, ChangedRange, SettingRange}
+use Rattle.refusals.specs.declared.Refusal.the-variants.{TableSize, MuNonFinite, MuRange, WeightRange, LengthMismatch, NonFinite, InvalidRadius, BudgetRange, CandidateLength, CandidateDistance, CandidateOutside, WidenedRadius, ListSize, BudgetExhausted, OutsideRadius, ListFull, ReferenceIndex, ChangedRange, SettingRange}
 use Rattle.refusals.specs.declared.Carried.{Carried}
 use Rattle.refusals.specs.declared.Verdict.{Verdict}
 use Rattle.refusals.specs.declared.Verdict.the-variants.{Pass, Refuse}
@@ -30,7 +30,6 @@ numbered (WidenedRadius a) = D.widenedRadius a
 numbered (ListSize a) = D.listSize a
 numbered (BudgetExhausted a b) = D.budgetExhausted a b
 numbered (OutsideRadius a) = D.outsideRadius a
-numbered (NoSeed a) = D.noSeed a
 numbered (ListFull a) = D.listFull a
 numbered ReferenceIndex = D.referenceIndex
 numbered (ChangedRange a) = D.changedRange a

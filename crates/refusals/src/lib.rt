@@ -36,8 +36,7 @@ pub enum Refusal {
     BudgetExhausted(u64, f64),
     // 16: no point inside the radius (radius).
     OutsideRadius(f64),
-    // 17: nothing was found by a seeded or ml search (the widened radius).
-    NoSeed(f64),
+    // 17 is free, and no refusal is to be given it.
     // 18: more points than places (points).
     ListFull(usize),
     // 19: the index of the new reference satellite is not below the point's length.
@@ -155,7 +154,6 @@ pub fn numbers(e: Refusal) -> Carried
         Refusal::ListSize(n) => whole(14, n as u64),
         Refusal::BudgetExhausted(m, x) => whole_and_double(15, m, x),
         Refusal::OutsideRadius(x) => double(16, x),
-        Refusal::NoSeed(x) => double(17, x),
         Refusal::ListFull(k) => whole(18, k as u64),
         Refusal::ReferenceIndex => nothing(19),
         Refusal::ChangedRange(i) => whole(20, i as u64),

@@ -8,7 +8,7 @@ pub use Rattle.rounding.proofs.Comparison.{held, failed, equals-itself,
 pub use Rattle.rounding.proofs.Tests.{within-not-above, nonneg-not-lt, weight-of}
 pub use Rattle.rounding.proofs.Constants.{zero-is, limit-is, one-is, epsilon-is}
 -- plus zero in place of minus zero
-pub use Rattle.rounding.proofs.Zeros.{plus-is-zero, minus-is-zero, minus-to-plus, never-minus, plus-zero-stays, zero-passes, plus-zero-above, plus-zero-below, plus-zero-finite, plus-zero-nonneg}
+pub use Rattle.rounding.proofs.Zeros.{plus-is-zero, minus-is-zero, minus-to-plus, never-minus, plus-zero-stays, plus-stays, zero-passes, plus-zero-above, plus-zero-below, plus-zero-finite, plus-zero-nonneg}
 -- the order of doubles, and `ord`, the number by which it is that of ℕ
 pub use Rattle.rounding.proofs.Value.{ord, lt→ord, ord→lt, le→ord, ord→le, eq→ord}
 pub use Rattle.rounding.proofs.Value.{float-le-refl, float-le-trans, float-lt-le-trans, float-le-lt-trans, float-total, lt→le, not-lt→le, not-le→lt, le→not-lt}

@@ -58,6 +58,17 @@ zero-signed (fin s m d) t e = let same : nought ≡ fin false m d = zero-magnitu
     signed s (inf b) = inf s
     signed s (fin b m d) = fin s m d
 
+-- what has the sign plus stays
+pub plus-stays : (x : Float) → NonNegative binary64 x → withPlusZero x ≡ x
+plus-stays x p = go (eq x nought) refl
+  where
+    go : (b : Bool) → eq x nought ≡ b → cond b nought x ≡ x
+    go true e =
+        let (s, same) = zero-signed x (p .num .fit) e in
+        let sign : s ≡ false = ap negative (sym same) ∙ p .plus in
+        sym (same ∙ ap (λ (b : Bool). fin b 0 (pos 0)) sign)
+    go false e = refl
+
 -- a zero is finite and not below zero
 pub zero-passes : (x : Float) → eq x nought ≡ true → not (finite x) || lt x nought ≡ false
 unfolding eq lt

@@ -17,10 +17,9 @@ use distance::total;
 use enumerate::NearestAnswer;
 use enumerate::nearest_within;
 use lists::copy_f64;
-use refusals::Refusal;
 use refusals::Verdict;
 
-// The nearest walk inside the widened radius.
+// The search of `nearest`, at the widened radius.
 fn widened_search(
     weights: &[f64],
     mu: &[f64],
@@ -33,15 +32,17 @@ fn widened_search(
     ensures { λ r. ⌜ NearestAnswered (C.widenedSearch (tableAt weights mu) (atEntry target) radius budget) (atEntry out) r (atExit out) ⌝ }
 {
     let wide = widened_radius(weights.len(), radius);
-    let none = Refusal::NoSeed(wide);
-    nearest_within(weights, mu, target, out, wide, budget, none)
+    nearest_within(weights, mu, target, out, wide, budget)
 }
 
 // Finds the nearest integer vector inside the widened radius, a candidate inside the radius being known; tells the nodes
 // and the point's distance.
 //
 // Refused: 2 to 9, the table and the call; 10 to 13, the candidate and the radius; 15, the budget ran out (nodes, the
-// radius that stood); 17, nothing was found (the widened radius). A refusal leaves out as it was.
+// radius that stood). A refusal leaves out as it was.
+//
+// Once the checks have passed, a budget with a node for every prefix opened at the widened radius always gives a point: the
+// candidate is inside.
 pub fn nearest_seeded(
     weights: &[f64],
     mu: &[f64],
@@ -101,7 +102,10 @@ fn ml_radius(weights: &[f64], mu: &[f64], target: &[f64]) -> f64
 // and the radius is that point's distance.
 //
 // Refused: 2 to 7 and 9, the table and the call; 11 and 13, the candidate's distance; 15, the budget ran out (nodes, the
-// radius that stood); 17, nothing was found (the widened radius). A refusal leaves out as it was.
+// radius that stood). A refusal leaves out as it was.
+//
+// Once the checks have passed, a budget with a node for every prefix opened at the widened radius always gives a point: the
+// candidate is inside.
 pub fn nearest_ml(
     weights: &[f64],
     mu: &[f64],

@@ -9,7 +9,7 @@
 // 13 by the specification, its LengthMismatch 6 or 10. The lines of refusals 2 to 5 and 9, which the Rust has not, are
 // the specification's.
 //
-// No case gives refusal 17. Unless n is 0, the candidate's distance is strictly below the widened radius; a vector
+// No case gives refusal 16. Unless n is 0, the candidate's distance is strictly below the widened radius; a vector
 // strictly below the radius is admitted, and at n = 0 the empty vector is found.
 use enumerate::NearestAnswer;
 use printing::values::*;
@@ -172,11 +172,14 @@ fn candidates() {
     );
 }
 
-// The radius is the candidate's distance, and without the widening nothing is found. The small weight of H is 2^-51.
+// The radius is the candidate's distance, and without the widening nothing is found. The small weight of H is 2^-51; its
+// widened radius opens 10 prefixes, and the walk takes 6 nodes.
 fn widening() {
     let halves = [0.5, 0.5];
     let h = [4.440892098500626e-16, 4.0];
     seeded_two(b"H:", h, 0.0, halves, [0, 0], 1.0, 100);
+    seeded_two(b"H, 6 nodes:", h, 0.0, halves, [0, 0], 1.0, 6);
+    seeded_two(b"H, 5 nodes:", h, 0.0, halves, [0, 0], 1.0, 5);
     seeded_two(
         b"nothing of 2:",
         [2.3, 0.5],
@@ -360,6 +363,8 @@ fn ml_small() {
     ml_two(b"G, 3 nodes:", [1.0, 1.0], 0.5, [0.25, 0.5], 3);
     ml_two(b"G, 2 nodes:", [1.0, 1.0], 0.5, [0.25, 0.5], 2);
     ml_two(b"H:", h, 0.0, halves, 100);
+    ml_two(b"H, 6 nodes:", h, 0.0, halves, 6);
+    ml_two(b"H, 5 nodes:", h, 0.0, halves, 5);
     ml_two(b"H, 0 nodes:", h, 0.0, halves, 0);
     ml_two(b"another:", [0.4, 2.7], -0.9, [-0.5, -0.5], 100);
     ml_two(b"seed of 2:", [2.3, 2.0], 0.8, [0.2, -2.5], 100);

@@ -11,7 +11,6 @@ use lib.Ieee.{Float}
 use lib.Ieee.Scale.{finite}
 use Rattle.definitions.specs.Table.{Table, dimension, largestDimension}
 use Rattle.definitions.specs.Distance.{distance}
-use Rattle.definitions.specs.Refusals.{Refusal}
 use Rattle.definitions.specs.Checks.{Verdict, firstRefusal, tableChecks, lengthCheck, targetCheck}
 use Rattle.definitions.specs.Calls.{Answer, NearestPoint, searchChecks}
 use Rattle.definitions.proofs.Verdicts.{append-passes}
@@ -34,8 +33,8 @@ finite-distance : (d x : Float) → T (finite d) → x ≡ d → distanceOf d �
 finite-distance d x f e = ap (λ (b : Bool). cond b (Finite d) (Overflow d)) (to-true (finite d) f) ∙ ap Finite (sym e)
 
 -- a search whose checks begin with those of every search
-pub distance-agrees : (rest : List Verdict) {none : Refusal} {t : Table} {target : List Float} {R : Float} {budget : ℕ} {out : List ℤ} {answer : Answer NearestPoint} {out′ : List ℤ} →
-    SearchPromises (searchChecks largestDimension t target out ++ rest) none t target R budget out answer out′ → DistanceAgrees t target answer out′
+pub distance-agrees : (rest : List Verdict) {k : ℕ} {t : Table} {target : List Float} {R : Float} {budget : ℕ} {out : List ℤ} {answer : Answer NearestPoint} {out′ : List ℤ} →
+    SearchPromises (searchChecks largestDimension t target out ++ rest) k t target R budget out answer out′ → DistanceAgrees t target answer out′
 distance-agrees rest {t = t} {target} {out = out} {out′ = out′} p small a q =
     let fits = p .demand-1 .answers .1 (inl (a, q)) in
     let passed = append-passes (searchChecks largestDimension t target out) rest (none-passes (searchChecks largestDimension t target out ++ rest) fits) .0 in

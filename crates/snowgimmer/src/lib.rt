@@ -64,7 +64,7 @@ pub extern "C" fn snowgimmer_nearest(
 // The nearest integer vector inside the widened radius goes to out, a candidate inside the radius being known; first is the
 // number of nodes, real the vector's distance.
 //
-// Refused: 2 to 13, 15 and 17.
+// Refused: 2 to 13 and 15.
 #[no_mangle]
 pub extern "C" fn snowgimmer_nearest_seeded(
     weights: &[f64],
@@ -88,7 +88,7 @@ pub extern "C" fn snowgimmer_nearest_seeded(
 // The nearest integer vector goes to out, from the nearest-plane point as candidate; first is the number of nodes, real the
 // vector's distance.
 //
-// Refused: 2 to 7, 9, 11, 13, 15 and 17.
+// Refused: 2 to 7, 9, 11, 13 and 15.
 #[no_mangle]
 pub extern "C" fn snowgimmer_nearest_ml(
     weights: &[f64],

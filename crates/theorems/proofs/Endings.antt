@@ -1,4 +1,4 @@
--- What the answer of a nearest search says of its walk, for any refusal if nothing was found and any radius. Assumes nothing.
+-- What the answer of a nearest search says of its walk, for any radius. Assumes nothing.
 use mathlib.Core.Path.{_≡_, refl, sym, ap, _∙_}
 use Prim.Native.Nat.{ℕ, _<_}
 use native.Mathlib.Omega.{arith}
@@ -18,27 +18,27 @@ exhausted-same k R m S p =
     let b : R ≡ S = cc in
     ap (λ (i : ℕ). exhausted i R) a ∙ ap (exhausted m) b
 
-module _ (none : Refusal) where
+module _ (R : Float) where
   -- a point found is the best with which the walk ended, and its distance the radius that stood
-  pub point-walked : (w : Walked Best) (a : NearestPoint) → endOfNearest none w ≡ found a → w ≡ ended (best (a .point)) (a .distance) (a .nodes)
-  point-walked (exhausted m R) a e = absurd (found≢refused (sym e ∙ end-exhausted none m R))
-  point-walked (ended no-best R m) a e = absurd (found≢refused (sym e ∙ end-nothing none R m))
-  point-walked (ended (best zs) R m) a e =
-      let q : found (record { nodes = m; distance = R; point = zs }) ≡ found a = sym (end-point none zs R m) ∙ e in
-      let r : record { nodes = m; distance = R; point = zs } ≡ a = cc in
+  pub point-walked : (w : Walked Best) (a : NearestPoint) → endOfNearest R w ≡ found a → w ≡ ended (best (a .point)) (a .distance) (a .nodes)
+  point-walked (exhausted m S) a e = absurd (found≢refused (sym e ∙ end-exhausted R m S))
+  point-walked (ended no-best S m) a e = absurd (found≢refused (sym e ∙ end-nothing R S m))
+  point-walked (ended (best zs) S m) a e =
+      let q : found (record { nodes = m; distance = S; point = zs }) ≡ found a = sym (end-point R zs S m) ∙ e in
+      let r : record { nodes = m; distance = S; point = zs } ≡ a = cc in
       ap (λ (b : NearestPoint). ended (best (b .point)) (b .distance) (b .nodes)) r
 
   number-same : {d e : Refusal} → d ≡ e → d .number ≡ e .number
   number-same p = ap (λ (r : Refusal). r .number) p
 
   -- a refusal under a number above 15 comes of a walk that ended with nothing
-  pub refused-nothing : (w : Walked Best) (e : Refusal) → 15 < e .number → endOfNearest none w ≡ refused e → (S : Float) × (m : ℕ) × (w ≡ ended no-best S m)
-  refused-nothing (exhausted m R) e late q = absurd (omega (arith, late, number-same (refused-same (sym (end-exhausted none m R) ∙ q))))
-  refused-nothing (ended no-best R m) e late q = (R, m, refl)
-  refused-nothing (ended (best zs) R m) e late q = absurd (found≢refused (sym (end-point none zs R m) ∙ q))
+  pub refused-nothing : (w : Walked Best) (e : Refusal) → 15 < e .number → endOfNearest R w ≡ refused e → (S : Float) × (m : ℕ) × (w ≡ ended no-best S m)
+  refused-nothing (exhausted m S) e late q = absurd (omega (arith, late, number-same (refused-same (sym (end-exhausted R m S) ∙ q))))
+  refused-nothing (ended no-best S m) e late q = (S, m, refl)
+  refused-nothing (ended (best zs) S m) e late q = absurd (found≢refused (sym (end-point R zs S m) ∙ q))
 
   -- an answer with 15 comes of a walk that was exhausted so
-  pub refused-exhausted : 15 < none .number → (w : Walked Best) (m : ℕ) (S : Float) → endOfNearest none w ≡ refused (budgetExhausted m S) → w ≡ exhausted m S
-  refused-exhausted other (exhausted k R) m S e = exhausted-same k R m S (sym (end-exhausted none k R) ∙ e)
-  refused-exhausted other (ended no-best R k) m S e = absurd (omega (arith, other, number-same (refused-same (sym (end-nothing none R k) ∙ e))))
-  refused-exhausted other (ended (best zs) R k) m S e = absurd (found≢refused (sym (end-point none zs R k) ∙ e))
+  pub refused-exhausted : (w : Walked Best) (m : ℕ) (S : Float) → endOfNearest R w ≡ refused (budgetExhausted m S) → w ≡ exhausted m S
+  refused-exhausted (exhausted k U) m S e = exhausted-same k U m S (sym (end-exhausted R k U) ∙ e)
+  refused-exhausted (ended no-best U k) m S e = absurd (omega (arith, number-same (refused-same (sym (end-nothing R U k) ∙ e))))
+  refused-exhausted (ended (best zs) U k) m S e = absurd (found≢refused (sym (end-point R zs U k) ∙ e))

@@ -8,17 +8,17 @@ use lib.Ieee.{Float}
 use Rattle.definitions.specs.Walk.{Walked, ended, exhausted}
 use Rattle.definitions.specs.Nearest.{Best}
 use Rattle.definitions.specs.Listing.{ListPoint, sorted}
-use Rattle.definitions.specs.Refusals.{Refusal, budgetExhausted, listFull}
+use Rattle.definitions.specs.Refusals.{Refusal, budgetExhausted, outsideRadius, listFull}
 use Rattle.definitions.specs.Calls.{Answer, found, refused, NearestPoint, endOfNearest, nearestOutput, ListAnswer, endOfList, listDistances, listPoints}
 use Rattle.definitions.proofs.Answers.{end-exhausted, end-nothing, end-point, output-found, output-refused, list-exhausted, list-full, list-sorted, distances-found, distances-refused, points-found, points-refused}
 use Rattle.theorems.specs.Answers.{EndsAsWalk, EndsAsListWalk}
 
-pub ends-as-walk : (none : Refusal) (w : Walked Best) (out : List ℤ) (answer : Answer NearestPoint) → answer ≡ endOfNearest none w → EndsAsWalk none w out answer (nearestOutput answer out)
-ends-as-walk none w out answer is =
+pub ends-as-walk : (R : Float) (w : Walked Best) (out : List ℤ) (answer : Answer NearestPoint) → answer ≡ endOfNearest R w → EndsAsWalk R w out answer (nearestOutput answer out)
+ends-as-walk R w out answer is =
     record {
-      point = λ z S m e. let a = is ∙ ap (endOfNearest none) e ∙ end-point none z S m in (a, output a ∙ output-found (record { nodes = m; distance = S; point = z }) out);
-      nothing = λ S m e. let a = is ∙ ap (endOfNearest none) e ∙ end-nothing none S m in (a, output a ∙ output-refused none out);
-      exhaustion = λ m S e. let a = is ∙ ap (endOfNearest none) e ∙ end-exhausted none m S in (a, output a ∙ output-refused (budgetExhausted m S) out);
+      point = λ z S m e. let a = is ∙ ap (endOfNearest R) e ∙ end-point R z S m in (a, output a ∙ output-found (record { nodes = m; distance = S; point = z }) out);
+      nothing = λ S m e. let a = is ∙ ap (endOfNearest R) e ∙ end-nothing R S m in (a, output a ∙ output-refused (outsideRadius R) out);
+      exhaustion = λ m S e. let a = is ∙ ap (endOfNearest R) e ∙ end-exhausted R m S in (a, output a ∙ output-refused (budgetExhausted m S) out);
     }
   where
     output : {b : Answer NearestPoint} → answer ≡ b → nearestOutput answer out ≡ nearestOutput b out

@@ -43,6 +43,7 @@ pub mod Endings
 pub mod EndsAsWalk
 pub mod RefusedCalls
 pub mod SearchCalls
+pub mod CandidateCalls
 pub mod ListCall
 pub mod Promises
 pub mod Ratios

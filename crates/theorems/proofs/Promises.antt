@@ -2,24 +2,21 @@
 use mathlib.Core.Path.{_≡_, refl, sym, ap, _∙_, subst}
 use mathlib.Core.List.{List}
 use mathlib.Core.Logic.{inl}
-use Prim.Native.Nat.{ℕ, _≤_, _<_}
+use Prim.Native.Nat.{ℕ}
 use native.Mathlib.Nat.{le-refl}
-use mathlib.Core.Bool.{not, false}
-use lib.Dec.{T, lit≤, lit<}
+use lib.Dec.{T, lit≤}
 use lib.ListN.{length}
 use lib.IntN.{ℤ}
 use lib.Ieee.{Float, binary64, fits, lt}
 use lib.Ieee.Scale.{finite}
-use Rattle.rounding.specs.Kinds.{Finite}
 use Rattle.definitions.specs.Table.{Table, dimension, plusZero, minusZero, largestDimension}
 use Rattle.definitions.specs.Distance.{distance}
 use Rattle.definitions.specs.Admitted.{allI64, isVector}
-use Rattle.definitions.specs.Nearest.{nearestWalk}
 use Rattle.definitions.specs.Listing.{listWalk}
 use Rattle.definitions.specs.Seeds.{nearestPlane, widened}
-use Rattle.definitions.specs.Refusals.{Refusal, outsideRadius, noSeed}
-use Rattle.definitions.specs.Checks.{Verdict, pass, firstRefusal, notFinite, radiusCheck, handedOn}
-use Rattle.definitions.specs.Calls.{Answer, found, refused, after, NearestPoint, endOfNearest, nearest, widenedSearch, nearestSeeded, mlRadius, nearestMl, nearestOutput, ListAnswer, endOfList, list, listDistances, listPoints, checksOfRound, round, roundOutput, plane, planeOutput, planeCoefficients}
+use Rattle.definitions.specs.Checks.{Verdict, pass, firstRefusal, radiusCheck, handedOn}
+use Rattle.definitions.specs.Calls.{Answer, found, after, NearestPoint, nearestWithin, searchChecks, nearest, widenedSearch, nearestSeeded, mlRadius, nearestMl, nearestOutput, ListAnswer, endOfList, list, listDistances, listPoints, checksOfRound, round, roundOutput, plane, planeOutput, planeCoefficients}
+use Rattle.definitions.proofs.Verdicts.{append-passes}
 use Rattle.definitions.proofs.Admissions.{vector-intro}
 use Rattle.definitions.proofs.Passed.{SearchPassed, radius-passed, nearest-passed, SeededPassed, seeded-passed, ml-passed, list-passed, round-refused, round-written, plane-refused, plane-written}
 use Rattle.definitions.proofs.Answers.{after-pass, nearest-checks-are, nearest-is, widened-search-is, seeded-checks-are, seeded-is, ml-checks-are, ml-is, list-checks-are, list-is, distances-found, points-found, round-is, plane-is}
@@ -33,13 +30,14 @@ use Rattle.theorems.proofs.Limits.{Limits}
 use Rattle.theorems.proofs.WiderRadius.{same-admitted}
 use Rattle.theorems.proofs.Others.{Radius, OwnList, listed-same, bounds-at}
 use Rattle.theorems.proofs.Checked.{held, failed, limits-of-checks}
-use Rattle.theorems.proofs.Seeded.{widened-double, widened-same, widened-nonneg, candidate-below, seeded-finds, nearestPlane-vector, mlRadius-finite, mlRadius-nonneg, mlRadius-within}
+use Rattle.theorems.proofs.Seeded.{widened-same, nearestPlane-vector, mlRadius-finite, mlRadius-nonneg, mlRadius-within}
 use Rattle.theorems.proofs.FirstRefusal.{decision, first-least, numbers-below, none-passes}
 use Rattle.theorems.proofs.RefusedCalls.{demand-1, verdict-demand-1, slices-unchanged, list-own-numbers}
 use Rattle.theorems.proofs.CallNumbers.{nearest-numbered, nearest-indices, seeded-numbered, seeded-indices, ml-numbered, ml-indices, list-numbered, list-indices, round-numbered, round-index, plane-numbered, plane-indices}
 use Rattle.theorems.proofs.MinusZero.{nearest-clear, seeded-clear, ml-clear, list-clear, call-clear}
 use Rattle.theorems.proofs.EndsAsWalk.{ends-as-list-walk}
-use Rattle.theorems.proofs.SearchCalls.{Ready, ready-from, SearchCall, refused-above-15, found-first, search-promises, nothing-exactly}
+use Rattle.theorems.proofs.SearchCalls.{Ready, ready-from, SearchCall, demand-16, found-first, search-promises, nothing-exactly}
+use Rattle.theorems.proofs.CandidateCalls.{widening, ready-widened, Candidate, candidate-demand, from-candidate}
 use Rattle.theorems.proofs.ListCall.{list-found, list-no-minus-zero, list-numbers}
 
 -- ---- the checks passed, on a table and a target of doubles
@@ -83,7 +81,7 @@ module _ (t : Table) (target distances : List Float) (points : List ℤ) (R : Fl
   by-walk f = is ∙ after-pass (firstRefusal (listCallChecks t target distances points R budget)) end (none-passes (listCallChecks t target distances points R budget) f)
 
   demand : Demand1 (listCallChecks t target distances points R budget) 15 18 answer ((listDistances answer distances ≡ distances) × (listPoints answer points ≡ points))
-  demand = demand-1 (numbers-below 15 (list-numbered t target distances points R budget) tt) (le-refl 15) (lit≤ tt) (list-own-numbers _ _) is (slices-unchanged answer distances points) (decision (listCallChecks t target distances points R budget))
+  demand = demand-1 (numbers-below 15 (list-numbered t target distances points R budget) tt) (le-refl 15) (lit≤ tt) (λ f. list-own-numbers _ _) is (slices-unchanged answer distances points) (decision (listCallChecks t target distances points R budget))
 
   listed-ordered : (a : ListAnswer) → answer ≡ found a → Listed t target (handedOn R) (a .points) (a .nodes) × StrictlyOrdered (a .points)
   listed-ordered a q = let f = demand .answers .1 (inl (a, q)) in list-found (list-ready f) budget (length distances) (by-walk f) a q
@@ -128,22 +126,20 @@ module _ (t : Table) (target : List Float) (out : List ℤ) (R : Float) (budget 
       let p = nearest-passed largestDimension t target out R budget (nearest-checks-are t target out R budget ∙ none-passes (nearestCallChecks t target out R budget) f) in
       (limits-of-search t target out doubles (p .search), p .radius)
 
-  nearest-call : SearchCall (nearestCallChecks t target out R budget) (outsideRadius (handedOn R)) t target (handedOn R) budget (nearest t target out R budget)
+  nearest-call : SearchCall (nearestCallChecks t target out R budget) t target (handedOn R) budget (nearest t target out R budget)
   nearest-call = record {
     below = numbers-below 15 (nearest-numbered t target out R budget) tt;
     least = first-least 0 (nearest-numbered t target out R budget) tt;
     indices = nearest-indices t target out R budget;
-    above-15 = lit< tt;
     clear = nearest-clear t target out R budget;
-    none-values = refl;
-    is = nearest-is t target out R budget ∙ ap (λ (v : Verdict). after v (endOfNearest (outsideRadius (handedOn R)) (nearestWalk t target (handedOn R) budget))) (nearest-checks-are t target out R budget);
+    is = nearest-is t target out R budget ∙ ap (λ (v : Verdict). after v (nearestWithin t target (handedOn R) budget)) (nearest-checks-are t target out R budget);
     ready = λ f. let (limits, passed) = nearest-pass f in ready-at t target limits R double passed;
   }
 
   pub nearest-promises : NearestPromises t target out R budget (nearest t target out R budget) (nearestOutput (nearest t target out R budget) out)
   nearest-promises =
       record {
-        search = search-promises nearest-call out;
+        search = search-promises nearest-call out (demand-16 nearest-call out);
         gives-16 = λ small. nothing-exactly nearest-call;
         list-first = λ small a q distances points b l e.
             let (listed, ordered) = listed-ordered t target distances points R b doubles double l e in
@@ -152,99 +148,76 @@ module _ (t : Table) (target : List Float) (out : List ℤ) (R : Float) (budget 
         at-minus-zero = zero-alike out (λ r. nearest t target out r budget) (λ r. nearest-again t target r budget out) R;
       }
 
--- ---- a search at the widened radius
--- the radius before and after the widening
-record Widening (t : Table) (target : List Float) (R : Float) : Type 0 where
-  before : Ready t target R
-  after : Finite binary64 (widened (dimension t) R)
-
-widening : {t : Table} {target : List Float} {R : Float} → Ready t target R → notFinite (widened (dimension t) R) ≡ false → Widening t target R
-widening {t} {target} {R} r q = record { before = r; after = record { fit = widened-double (dimension t) R; fin = held (finite (widened (dimension t) R)) q } }
-
-ready-widened : {t : Table} {target : List Float} {R : Float} → Widening t target R → Ready t target (widened (dimension t) R)
-ready-widened {t} {target} {R} w = let r = w .before in ready-from (r .limits) (w .after) (widened-nonneg t target (r .limits) R (r .finite) (r .nonneg) (w .after))
-
--- such a search's answer as the end of a walk
-widened-end : (t : Table) (target : List Float) (R : Float) (budget : ℕ) {v w : Verdict} → v ≡ w → after v (widenedSearch t target R budget) ≡ after w (endOfNearest (noSeed (widened (dimension t) R)) (nearestWalk t target (widened (dimension t) R) budget))
+-- ---- a search from a candidate: its answer as that of the search from the widened radius
+widened-end : (t : Table) (target : List Float) (R : Float) (budget : ℕ) {v w : Verdict} → v ≡ w → after v (widenedSearch t target R budget) ≡ after w (nearestWithin t target (widened (dimension t) R) budget)
 widened-end t target R budget {w = w} are = ap (λ (x : Verdict). after x (widenedSearch t target R budget)) are ∙ ap (after w) (widened-search-is t target R budget)
-
--- with a candidate within the radius
-module _ {checks : List Verdict} {t : Table} {target : List Float} {R : Float} {budget : ℕ} {answer : Answer NearestPoint} (call : SearchCall checks (noSeed (widened (dimension t) R)) t target (widened (dimension t) R) budget answer)
-    (start : NoneFits checks → Widening t target R) (z : List ℤ) (candidate : NoneFits checks → T (isVector t z) × T (not (lt R (distance t target z)))) where
-  never-17 : (e : Refusal) → answer ≡ refused e → e .number ≡ 17 → ⊥
-  never-17 e q n =
-      let (f, w) = refused-above-15 call e q (subst (λ (k : ℕ). 15 < k) (sym n) (lit< tt)) in
-      let s = start f in
-      let r = s .before in
-      let c = candidate f in
-      seeded-finds t target (r .limits) R (r .finite) (r .nonneg) (s .after) z (c .0) (c .1) budget (w .0) (w .1) (w .2)
-
-  above : 1 ≤ dimension t → NoneFits checks → T (lt (distance t target z) (widened (dimension t) R))
-  above h f = let s = start f in let r = s .before in let c = candidate f in candidate-below t target (r .limits) R (r .finite) (r .nonneg) (s .after) z (c .0) (c .1) h
 
 -- ---- nearest_seeded
 module _ (t : Table) (target : List Float) (out candidate : List ℤ) (R : Float) (budget : ℕ) (doubles : T (ofDoubles t target)) (double : T (fits binary64 R)) (integers : T (allI64 candidate)) where
   seeded-pass : NoneFits (seededCallChecks t target out candidate R budget) → SeededPassed largestDimension t target out candidate R budget
   seeded-pass f = seeded-passed largestDimension t target out candidate R budget (seeded-checks-are t target out candidate R budget ∙ none-passes (seededCallChecks t target out candidate R budget) f)
 
-  seeded-start : NoneFits (seededCallChecks t target out candidate R budget) → Widening t target (handedOn R)
-  seeded-start f = let p = seeded-pass f in widening (ready-at t target (limits-of-search t target out doubles (p .search)) R double (p .radius)) (p .wide)
+  seeded-candidate : NoneFits (seededCallChecks t target out candidate R budget) → Candidate t target out candidate (handedOn R) budget
+  seeded-candidate f =
+      let p = seeded-pass f in
+      record {
+        start = widening (ready-at t target (limits-of-search t target out doubles (p .search)) R double (p .radius)) (p .wide);
+        vector = vector-intro t candidate (sym (p .candidate-length)) integers;
+        within = failed (lt (handedOn R) (distance t target candidate)) (p .inside);
+        searched = append-passes (searchChecks largestDimension t target out) _ (none-passes (seededCallChecks t target out candidate R budget) f) .0;
+        few = p .few;
+      }
 
-  seeded-call : SearchCall (seededCallChecks t target out candidate R budget) (noSeed (widened (dimension t) (handedOn R))) t target (widened (dimension t) (handedOn R)) budget (nearestSeeded t target out candidate R budget)
+  seeded-call : SearchCall (seededCallChecks t target out candidate R budget) t target (widened (dimension t) (handedOn R)) budget (nearestSeeded t target out candidate R budget)
   seeded-call = record {
     below = numbers-below 15 (seeded-numbered t target out candidate R budget) tt;
     least = first-least 0 (seeded-numbered t target out candidate R budget) tt;
     indices = seeded-indices t target out candidate R budget;
-    above-15 = lit< tt;
     clear = seeded-clear t target out candidate R budget;
-    none-values = refl;
     is = seeded-is t target out candidate R budget ∙ widened-end t target (handedOn R) budget (seeded-checks-are t target out candidate R budget);
-    ready = λ f. ready-widened (seeded-start f);
+    ready = λ f. ready-widened (seeded-candidate f .start);
   }
-
-  seeded-candidate : NoneFits (seededCallChecks t target out candidate R budget) → T (isVector t candidate) × T (not (lt (handedOn R) (distance t target candidate)))
-  seeded-candidate f = let p = seeded-pass f in (vector-intro t candidate (sym (p .candidate-length)) integers, failed (lt (handedOn R) (distance t target candidate)) (p .inside))
 
   pub seeded-promises : SeededPromises t target out candidate R budget (nearestSeeded t target out candidate R budget) (nearestOutput (nearestSeeded t target out candidate R budget) out)
   seeded-promises =
       record {
-        search = search-promises seeded-call out;
-        never-17 = λ small. never-17 seeded-call seeded-start candidate seeded-candidate;
-        above = λ some small. above seeded-call seeded-start candidate seeded-candidate some;
-        own-radius = λ f. widened-same (dimension t) R (seeded-start f .before .limits .small) double;
+        search = search-promises seeded-call out (candidate-demand seeded-call out candidate seeded-candidate);
+        from-candidate = from-candidate seeded-call out candidate seeded-candidate;
+        own-radius = λ f. widened-same (dimension t) R (seeded-candidate f .start .before .limits .small) double;
         at-minus-zero = zero-alike out (λ r. nearestSeeded t target out candidate r budget) (λ r. seeded-again t target r budget out candidate) R;
       }
 
 -- ---- nearest_ml
 module _ (t : Table) (target : List Float) (out : List ℤ) (budget : ℕ) (doubles : T (ofDoubles t target)) where
-  ml-start : NoneFits (mlCallChecks t target out budget) → Widening t target (mlRadius t target)
-  ml-start f =
-      let p = ml-passed largestDimension t target out budget (ml-checks-are t target out budget ∙ none-passes (mlCallChecks t target out budget) f) in
+  ml-candidate : NoneFits (mlCallChecks t target out budget) → Candidate t target out (nearestPlane t target .point) (mlRadius t target) budget
+  ml-candidate f =
+      let passed = none-passes (mlCallChecks t target out budget) f in
+      let p = ml-passed largestDimension t target out budget (ml-checks-are t target out budget ∙ passed) in
       let limits = limits-of-search t target out doubles (p .search) in
       let has = held (finite (mlRadius t target)) (p .total) in
-      widening (ready-from limits (mlRadius-finite t target limits has) (mlRadius-nonneg t target limits has)) (p .wide)
+      record {
+        start = widening (ready-from limits (mlRadius-finite t target limits has) (mlRadius-nonneg t target limits has)) (p .wide);
+        vector = nearestPlane-vector t target;
+        within = mlRadius-within t target limits has;
+        searched = append-passes (searchChecks largestDimension t target out) _ passed .0;
+        few = p .few;
+      }
 
-  ml-call : SearchCall (mlCallChecks t target out budget) (noSeed (widened (dimension t) (mlRadius t target))) t target (widened (dimension t) (mlRadius t target)) budget (nearestMl t target out budget)
+  ml-call : SearchCall (mlCallChecks t target out budget) t target (widened (dimension t) (mlRadius t target)) budget (nearestMl t target out budget)
   ml-call = record {
     below = numbers-below 15 (ml-numbered t target out budget) tt;
     least = first-least 0 (ml-numbered t target out budget) tt;
     indices = ml-indices t target out budget;
-    above-15 = lit< tt;
     clear = ml-clear t target out budget;
-    none-values = refl;
     is = ml-is t target out budget ∙ widened-end t target (mlRadius t target) budget (ml-checks-are t target out budget);
-    ready = λ f. ready-widened (ml-start f);
+    ready = λ f. ready-widened (ml-candidate f .start);
   }
-
-  ml-candidate : NoneFits (mlCallChecks t target out budget) → T (isVector t (nearestPlane t target .point)) × T (not (lt (mlRadius t target) (distance t target (nearestPlane t target .point))))
-  ml-candidate f = (nearestPlane-vector t target, let r = ml-start f .before in mlRadius-within t target (r .limits) (r .finite .fin))
 
   pub ml-promises : MlPromises t target out budget (nearestMl t target out budget) (nearestOutput (nearestMl t target out budget) out)
   ml-promises =
       record {
-        search = search-promises ml-call out;
-        never-17 = λ small. never-17 ml-call ml-start (nearestPlane t target .point) ml-candidate;
-        above = λ some small. above ml-call ml-start (nearestPlane t target .point) ml-candidate some;
+        search = search-promises ml-call out (candidate-demand ml-call out (nearestPlane t target .point) ml-candidate);
+        from-candidate = from-candidate ml-call out (nearestPlane t target .point) ml-candidate;
       }
 
 -- ---- round, nearest_plane

@@ -26,7 +26,7 @@ end-answers : {A : Type 0} {j k : ℕ} {end answer : Answer A} → ((e : Refusal
 end-answers own is (found a) q = inl (a, is ∙ q)
 end-answers own is (refused e) q = inr (e, is ∙ q, own e q)
 
-module _ {A : Type 0} {checks : List Verdict} (below : (e : Refusal) → Fits checks e → e .number < 15) {j k : ℕ} (first : 15 ≤ j) (second : 15 ≤ k) {end answer : Answer A} (own : (e : Refusal) → end ≡ refused e → Under j k e) (is : answer ≡ after (firstRefusal checks) end) where
+module _ {A : Type 0} {checks : List Verdict} (below : (e : Refusal) → Fits checks e → e .number < 15) {j k : ℕ} (first : 15 ≤ j) (second : 15 ≤ k) {end answer : Answer A} (own : NoneFits checks → (e : Refusal) → end ≡ refused e → Under j k e) (is : answer ≡ after (firstRefusal checks) end) where
   not-own : (e : Refusal) → Fits checks e → Under j k e → ⊥
   not-own e m (inl q) = let l = below e m in omega (arith, l, q, first)
   not-own e m (inr q) = let l = below e m in omega (arith, l, q, second)
@@ -48,8 +48,8 @@ module _ {A : Type 0} {checks : List Verdict} (below : (e : Refusal) → Fits ch
   demand-1 unchanged (inr (none, q)) =
       let a = is ∙ after-pass (firstRefusal checks) end q in
       record {
-        refuses = λ e. (refused-by e, λ r. absurd (r .1 (own e (sym a ∙ r .0))));
-        answers = (λ same. end-answers own a end refl, λ r. none);
+        refuses = λ e. (refused-by e, λ r. absurd (r .1 (own none e (sym a ∙ r .0))));
+        answers = (λ same. end-answers (own none) a end refl, λ r. none);
         unchanged = unchanged;
       }
 
@@ -87,10 +87,10 @@ pub slices-unchanged : (answer : Answer ListAnswer) (distances : List Float) (po
 slices-unchanged answer distances points e q = (ap (λ (a : Answer ListAnswer). listDistances a distances) q ∙ distances-refused e distances, ap (λ (a : Answer ListAnswer). listPoints a points) q ∙ points-refused e points)
 
 -- the search's own refusals: under which numbers a walk ends a call
-pub nearest-own-numbers : (none : Refusal) (w : Walked Best) (e : Refusal) → endOfNearest none w ≡ refused e → Under 15 (none .number) e
-nearest-own-numbers none (exhausted m R) e q = inl (ap (λ (r : Refusal). r .number) (refused-same (sym q ∙ end-exhausted none m R)))
-nearest-own-numbers none (ended no-best R m) e q = inr (ap (λ (r : Refusal). r .number) (refused-same (sym q ∙ end-nothing none R m)))
-nearest-own-numbers none (ended (best zs) R m) e q = absurd (found≢refused (sym (end-point none zs R m) ∙ q))
+pub nearest-own-numbers : (R : Float) (w : Walked Best) (e : Refusal) → endOfNearest R w ≡ refused e → Under 15 16 e
+nearest-own-numbers R (exhausted m S) e q = inl (ap (λ (r : Refusal). r .number) (refused-same (sym q ∙ end-exhausted R m S)))
+nearest-own-numbers R (ended no-best S m) e q = inr (ap (λ (r : Refusal). r .number) (refused-same (sym q ∙ end-nothing R S m)))
+nearest-own-numbers R (ended (best zs) S m) e q = absurd (found≢refused (sym (end-point R zs S m) ∙ q))
 
 pub list-own-numbers : (places : ℕ) (w : Walked (List ListPoint)) (e : Refusal) → endOfList places w ≡ refused e → Under 15 18 e
 list-own-numbers places (exhausted m R) e q = inl (ap (λ (r : Refusal). r .number) (refused-same (sym q ∙ list-exhausted places m R)))

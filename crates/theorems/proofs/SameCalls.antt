@@ -16,9 +16,9 @@ use Rattle.definitions.specs.Walk.{Walked, ended, Leaf, walk}
 use Rattle.definitions.specs.Nearest.{no-best, consider, nearestWalk}
 use Rattle.definitions.specs.Listing.{collect, listWalk}
 use Rattle.definitions.specs.Seeds.{Plane, widened}
-use Rattle.definitions.specs.Refusals.{candidateLength, outsideRadius, noSeed}
+use Rattle.definitions.specs.Refusals.{candidateLength}
 use Rattle.definitions.specs.Checks.{Verdict, refuse, pass, firstRefusal, refuseIf, lengthCheck, planeLengthCheck, targetCheck, finiteCheck, radiusCheck, handedOn, budgetCheck, candidateDistanceCheck, candidateOutsideCheck, widenedRadiusCheck, listSizeCheck}
-use Rattle.definitions.specs.Calls.{after, endOfNearest, searchChecks, nearestChecks, nearest, widenedSearch, seededChecks, nearestSeeded, mlRadius, mlChecks, nearestMl, endOfList, listChecks, list, plane, planeOutput, planeCoefficients}
+use Rattle.definitions.specs.Calls.{after, endOfNearest, nearestWithin, searchChecks, nearestChecks, nearest, widenedSearch, seededChecks, nearestSeeded, mlRadius, mlChecks, nearestMl, endOfList, listChecks, list, plane, planeOutput, planeCoefficients}
 use Rattle.definitions.proofs.Verdicts.{orElse, first-append}
 use Rattle.theorems.specs.SameRead.{SameRead}
 use Rattle.theorems.proofs.SameDistances.{same-center, same-partial}
@@ -58,9 +58,13 @@ module _ (t : Table) (mu′ : List Float) (same : SameRead t (table (t .weights)
   unfolding listWalk
   list-walk R budget = walk-of collect budget (ended [] R 0)
 
+  within : (R : Float) (budget : ℕ) → nearestWithin t target R budget ≡ nearestWithin t′ target R budget
+  unfolding nearestWithin
+  within R budget = ap (endOfNearest R) (nearest-walk R budget)
+
   widened-search : (R : Float) (budget : ℕ) → widenedSearch t target R budget ≡ widenedSearch t′ target R budget
   unfolding widenedSearch
-  widened-search R budget = ap (endOfNearest (noSeed (widened n R))) (nearest-walk (widened n R) budget)
+  widened-search R budget = within (widened n R) budget
 
   search-checks : (out : List ℤ) → searchChecks largestDimension t target out ≡ searchChecks largestDimension t′ target out
   unfolding searchChecks
@@ -69,8 +73,7 @@ module _ (t : Table) (mu′ : List Float) (same : SameRead t (table (t .weights)
   nearest-of : (out : List ℤ) (R : Float) (budget : ℕ) → nearest t target out R budget ≡ nearest t′ target out R budget
   unfolding nearest nearestChecks
   nearest-of out R budget = λ k.
-      after (firstRefusal (search-checks out k ++ radiusCheck R ∷ budgetCheck budget ∷ []))
-      (endOfNearest (outsideRadius (handedOn R)) (nearest-walk (handedOn R) budget k))
+      after (firstRefusal (search-checks out k ++ radiusCheck R ∷ budgetCheck budget ∷ [])) (within (handedOn R) budget k)
 
   seeded-checks : (out candidate : List ℤ) (R : Float) (budget : ℕ) → seededChecks largestDimension t target out candidate R budget ≡ seededChecks largestDimension t′ target out candidate R budget
   unfolding seededChecks candidateChecks

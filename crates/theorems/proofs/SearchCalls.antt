@@ -1,11 +1,11 @@
--- What the three nearest searches promise, by one law: of any call whose answer is its first refusal or the end of a walk from R. Assumes nothing.
+-- What the three nearest searches promise, by one law: of any call whose answer is its first refusal or that of the search from R. Assumes nothing.
 use mathlib.Core.Path.{_≡_, refl, sym, ap, _∙_, subst}
-use mathlib.Core.Logic.{_↔_, inl, inr}
+use mathlib.Core.Logic.{_↔_, inl, inr, ⊎-elim}
 use mathlib.Core.Bool.{not, false≢true}
-use mathlib.Core.List.{List, [], _∷_, List·Memᴰ}
+use mathlib.Core.List.{List, []}
 use Prim.Native.Nat.{ℕ, _≤_, _<_}
 use native.Mathlib.Nat.{le-refl, le-trans, le-of-eq, le-of-lt}
-use lib.Dec.{T}
+use lib.Dec.{T, lit≤, lit<}
 use lib.ListN.{length}
 use lib.IntN.{ℤ}
 use lib.Ieee.{Float, binary64, lt}
@@ -15,21 +15,21 @@ use Rattle.rounding.proofs.Interface.{nonneg-not-lt}
 use Rattle.lists.specs.All.{All}
 use Rattle.definitions.specs.Table.{Table, dimension, plusZero, minusZero}
 use Rattle.definitions.specs.Distance.{distance, hasDistance}
-use Rattle.definitions.specs.Admitted.{admitted, opened}
+use Rattle.definitions.specs.Admitted.{opened}
 use Rattle.definitions.specs.Walk.{Walked, ended, exhausted}
 use Rattle.definitions.specs.Nearest.{Best, no-best, best, nearestWalk}
 use Rattle.definitions.specs.Listing.{ListPoint}
-use Rattle.definitions.specs.Refusals.{Value, real, Refusal}
+use Rattle.definitions.specs.Refusals.{Refusal, outsideRadius}
 use Rattle.definitions.specs.Checks.{Verdict, firstRefusal, targetFault}
-use Rattle.definitions.specs.Calls.{Answer, found, refused, after, NearestPoint, endOfNearest, nearestOutput}
+use Rattle.definitions.specs.Calls.{Answer, found, refused, after, NearestPoint, endOfNearest, nearestWithin, nearestOutput}
 use Rattle.definitions.proofs.Distances.{partial-nil}
 use Rattle.definitions.proofs.Admissions.{vector-empty, admitted-vector}
-use Rattle.definitions.proofs.Answers.{after-pass, found≢refused, refused-same, end-exhausted, end-nothing, end-point, output-found}
+use Rattle.definitions.proofs.Answers.{after-pass, found≢refused, refused-same, end-exhausted, end-nothing, end-point, within-is, output-found}
 use Rattle.theorems.specs.Counting.{NumberOf}
 use Rattle.theorems.specs.Prefixes.{openedPrefixes}
 use Rattle.theorems.specs.Refusals.{Fits, NoneFits, FirstIsLeast, FirstIndices}
 use Rattle.theorems.specs.Ordered.{BeginsAt, StrictlyOrdered}
-use Rattle.theorems.specs.Answers.{Nearest, Listed, NoMinusZero, Demand1}
+use Rattle.theorems.specs.Answers.{Nearest, Listed, NoMinusZero, Under, Demand1}
 use Rattle.theorems.specs.Promises.{StandingRadius, NearestNodes, SearchPromises, NothingToFind}
 use Rattle.theorems.proofs.Limits.{Limits}
 use Rattle.theorems.proofs.Counts.{same-length}
@@ -58,37 +58,42 @@ ready-from limits finite nonneg = record { limits = limits; finite = finite; plu
 pub number-of-prefixes : {t : Table} {target : List Float} {R : Float} → Ready t target R → NumberOf (opened t target R) (length (openedPrefixes t target R))
 number-of-prefixes {t} {target} {R} r = record { all = openedPrefixes t target R; once = opened-once t target (r .limits) R (r .finite) (r .plus); long = refl }
 
+-- and it is the only such number
+pub only-number-of-prefixes : {t : Table} {target : List Float} {R : Float} → Ready t target R → {k : ℕ} → NumberOf (opened t target R) k → length (openedPrefixes t target R) ≡ k
+only-number-of-prefixes {t} {target} {R} r o = same-length (opened t target R) (openedPrefixes t target R) (o .all) (opened-once t target (r .limits) R (r .finite) (r .plus)) (o .once) ∙ o .long
+
 -- what has the sign plus is not minus zero
 pub plus-sign : {x y : Float} → NonNegative binary64 x → y ≡ x → y ≡ minusZero → ⊥
 plus-sign p same z = false≢true (sym (p .plus) ∙ ap negative (sym same ∙ z))
 
--- a call with these checks that is otherwise the end of its walk from R
-pub record SearchCall (checks : List Verdict) (none : Refusal) (t : Table) (target : List Float) (R : Float) (budget : ℕ) (answer : Answer NearestPoint) : Type 0 where
+-- a call with these checks that is otherwise the search from R
+pub record SearchCall (checks : List Verdict) (t : Table) (target : List Float) (R : Float) (budget : ℕ) (answer : Answer NearestPoint) : Type 0 where
   pub below : (e : Refusal) → Fits checks e → e .number < 15
   pub least : FirstIsLeast checks
   pub indices : FirstIndices checks t targetFault target
-  pub above-15 : 15 < none .number
   pub clear : All Clear checks
-  pub none-values : none .values ≡ real R ∷ []
-  pub is : answer ≡ after (firstRefusal checks) (endOfNearest none (nearestWalk t target R budget))
+  pub is : answer ≡ after (firstRefusal checks) (nearestWithin t target R budget)
   pub ready : NoneFits checks → Ready t target R
 
-module _ {checks : List Verdict} {none : Refusal} {t : Table} {target : List Float} {R : Float} {budget : ℕ} {answer : Answer NearestPoint} (call : SearchCall checks none t target R budget answer) where
+module _ {checks : List Verdict} {t : Table} {target : List Float} {R : Float} {budget : ℕ} {answer : Answer NearestPoint} (call : SearchCall checks t target R budget answer) where
   abbrev walk : Walked Best
   walk = nearestWalk t target R budget
 
-  by-walk : NoneFits checks → answer ≡ endOfNearest none walk
-  by-walk f = call .is ∙ after-pass (firstRefusal checks) (endOfNearest none walk) (none-passes checks f)
+  ends : answer ≡ after (firstRefusal checks) (endOfNearest R walk)
+  ends = call .is ∙ ap (after (firstRefusal checks)) (within-is t target R budget)
+
+  pub by-walk : NoneFits checks → answer ≡ endOfNearest R walk
+  by-walk f = ends ∙ after-pass (firstRefusal checks) (endOfNearest R walk) (none-passes checks f)
 
   -- a refusal above 15 comes where no check fits and the walk ends with nothing
-  pub refused-above-15 : (e : Refusal) → answer ≡ refused e → 15 < e .number → NoneFits checks × ((S : Float) × (m : ℕ) × (walk ≡ ended no-best S m))
+  refused-above-15 : (e : Refusal) → answer ≡ refused e → 15 < e .number → NoneFits checks × ((S : Float) × (m : ℕ) × (walk ≡ ended no-best S m))
   refused-above-15 e q h =
-      let f = own-refusal (call .below) (le-refl 15) (le-of-lt (call .above-15)) (nearest-own-numbers none walk) (call .is) e q (le-of-lt h) in
-      (f, refused-nothing none walk e h (sym (by-walk f) ∙ q))
+      let f = own-refusal (call .below) (le-refl 15) (lit≤ tt) (λ f. nearest-own-numbers R walk) ends e q (le-of-lt h) in
+      (f, refused-nothing R walk e h (sym (by-walk f) ∙ q))
 
-  -- the radius that stood with 15 is R or the distance of a vector, so neither 15 nor `none` carries minus zero
-  end-clear : NoneFits checks → (w : Walked Best) → walk ≡ w → (e : Refusal) → endOfNearest none w ≡ refused e → NoMinusZero e
-  end-clear f (exhausted m S) w e q = subst NoMinusZero (refused-same (sym (end-exhausted none m S) ∙ q)) (a-whole (one-double (stood (exhausted-radius t target (r .limits) R (r .finite) (r .plus) budget m S w))))
+  -- the radius that stood with 15 is R or the distance of a vector, so neither 15 nor 16 carries minus zero
+  end-clear : NoneFits checks → (w : Walked Best) → walk ≡ w → (e : Refusal) → endOfNearest R w ≡ refused e → NoMinusZero e
+  end-clear f (exhausted m S) w e q = subst NoMinusZero (refused-same (sym (end-exhausted R m S) ∙ q)) (a-whole (one-double (stood (exhausted-radius t target (r .limits) R (r .finite) (r .plus) budget m S w))))
     where
       r : Ready t target R
       r = call .ready f
@@ -96,21 +101,30 @@ module _ {checks : List Verdict} {none : Refusal} {t : Table} {target : List Flo
       stood : StandingRadius t target R S → S ≡ minusZero → ⊥
       stood (inl s) = plus-sign (r .nonneg) s
       stood (inr (z, a, s)) = plus-sign (distance-nonneg t target (r .limits) z (admitted-vector t target R z a)) s
-  end-clear f (ended no-best S m) w e q =
-      subst NoMinusZero (refused-same (sym (end-nothing none S m) ∙ q))
-      (subst (λ (vs : List Value). List·Memᴰ (real minusZero) vs → ⊥) (sym (call .none-values)) (one-double (plus-sign (call .ready f .nonneg) refl)))
-  end-clear f (ended (best zs) S m) w e q = absurd (found≢refused (sym (end-point none zs S m) ∙ q))
+  end-clear f (ended no-best S m) w e q = subst NoMinusZero (refused-same (sym (end-nothing R S m) ∙ q)) (one-double (plus-sign (call .ready f .nonneg) refl))
+  end-clear f (ended (best zs) S m) w e q = absurd (found≢refused (sym (end-point R zs S m) ∙ q))
 
   no-minus-zero : (e : Refusal) → answer ≡ refused e → NoMinusZero e
-  no-minus-zero = call-clear (call .clear) (call .is) (λ f. end-clear f walk refl)
+  no-minus-zero = call-clear (call .clear) ends (λ f. end-clear f walk refl)
 
-  -- promise 1, whatever the output slice holds
-  demand : (out : List ℤ) → Demand1 checks 15 (none .number) answer (nearestOutput answer out ≡ out)
-  demand out = demand-1 (call .below) (le-refl 15) (le-of-lt (call .above-15)) (nearest-own-numbers none walk) (call .is) (output-unchanged answer out) (decision checks)
+  -- promise 1, whatever the output slice holds, of a walk that can end under 15 and k
+  demand : {k : ℕ} → 15 ≤ k → (NoneFits checks → (e : Refusal) → endOfNearest R walk ≡ refused e → Under 15 k e) → (out : List ℤ) → Demand1 checks 15 k answer (nearestOutput answer out ≡ out)
+  demand late own out = demand-1 (call .below) (le-refl 15) late own ends (output-unchanged answer out) (decision checks)
+
+  -- every such search can end under no other than 15 and 16
+  pub demand-16 : (out : List ℤ) → Demand1 checks 15 16 answer (nearestOutput answer out ≡ out)
+  demand-16 = demand (lit≤ tt) (λ f. nearest-own-numbers R walk)
+
+  -- one whose walk never ends with nothing, under 15 alone
+  pub demand-15 : (NoneFits checks → (S : Float) (m : ℕ) → walk ≡ ended no-best S m → ⊥) → (out : List ℤ) → Demand1 checks 15 15 answer (nearestOutput answer out ≡ out)
+  demand-15 finds = demand (le-refl 15) own
+    where
+      own : NoneFits checks → (e : Refusal) → endOfNearest R walk ≡ refused e → Under 15 15 e
+      own f e q = ⊎-elim inl (λ n. let (S, m, w) = refused-nothing R walk e (subst (λ (k : ℕ). 15 < k) (sym n) (lit< tt)) q in absurd (finds f S m w)) (nearest-own-numbers R walk e q)
 
   -- a point found: what the laws of a walk ask for holds, and the walk ended with that point
   walked : (a : NearestPoint) → answer ≡ found a → Ready t target R × (walk ≡ ended (best (a .point)) (a .distance) (a .nodes))
-  walked a q = let f = demand [] .answers .1 (inl (a, q)) in (call .ready f, point-walked none walk a (sym (by-walk f) ∙ q))
+  walked a q = let f = demand-16 [] .answers .1 (inl (a, q)) in (call .ready f, point-walked R walk a (sym (by-walk f) ∙ q))
 
   found-nearest : (a : NearestPoint) → answer ≡ found a → Nearest t target R (a .point)
   found-nearest a q = let (r, w) = walked a q in nearest-point t target (r .limits) R (r .finite) (r .plus) budget (a .point) (a .distance) (a .nodes) w
@@ -144,41 +158,40 @@ module _ {checks : List Verdict} {none : Refusal} {t : Table} {target : List Flo
         record {
           prefixes = length (openedPrefixes t target R);
           opened-number = number-of-prefixes r;
-          enough-budget = λ h m S q. nearest-enough t target (r .limits) R (r .finite) (r .plus) budget h m S (refused-exhausted none (call .above-15) walk m S (sym (by-walk f) ∙ q));
+          enough-budget = λ h m S q. nearest-enough t target (r .limits) R (r .finite) (r .plus) budget h m S (refused-exhausted R walk m S (sym (by-walk f) ∙ q));
           most-nodes = λ a q. nearest-nodes t target (r .limits) R (r .finite) (r .plus) budget (best (a .point)) (a .distance) (a .nodes) (walked a q .1);
           values-of-15 = λ m S q.
-              let w = refused-exhausted none (call .above-15) walk m S (sym (by-walk f) ∙ q) in
+              let w = refused-exhausted R walk m S (sym (by-walk f) ∙ q) in
               (nearest-exhausted t target R budget m S w, exhausted-radius t target (r .limits) R (r .finite) (r .plus) budget m S w);
         }
 
-    pub search-promises : SearchPromises checks none t target R budget out answer (nearestOutput answer out)
-    search-promises =
+    pub search-promises : {k : ℕ} → Demand1 checks 15 k answer (nearestOutput answer out ≡ out) → SearchPromises checks k t target R budget out answer (nearestOutput answer out)
+    search-promises demanded =
         record {
-          demand-1 = demand out;
+          demand-1 = demanded;
           least-number = call .least;
           first-indices = call .indices;
           no-minus-zero = no-minus-zero;
-          ends = λ f. ends-as-walk none walk out answer (by-walk f);
+          ends = λ f. ends-as-walk R walk out answer (by-walk f);
           point = λ small. point;
           own-distance = λ small. own-distance;
           zero-distance = zero-distance;
           nodes = λ small. nodes;
         }
 
-  -- the refusal for nothing found comes if and only if no check fits, R admits no vector and the budget has a node for every opened prefix
-  pub nothing-exactly : (answer ≡ refused none) ↔ NothingToFind checks t target R budget
+  -- 16 comes if and only if no check fits, R admits no vector and the budget has a node for every opened prefix
+  pub nothing-exactly : (answer ≡ refused (outsideRadius R)) ↔ NothingToFind checks t target R budget
   nothing-exactly = (there, back)
     where
-      there : answer ≡ refused none → NothingToFind checks t target R budget
+      there : answer ≡ refused (outsideRadius R) → NothingToFind checks t target R budget
       there q =
-          let (f, w) = refused-above-15 none q (call .above-15) in
+          let (f, w) = refused-above-15 (outsideRadius R) q (lit< tt) in
           let r = call .ready f in
           let x = outside-exactly t target (r .limits) R (r .finite) (r .plus) budget .0 w in
           (f, x .0, length (openedPrefixes t target R), number-of-prefixes r, x .1)
 
-      back : NothingToFind checks t target R budget → answer ≡ refused none
+      back : NothingToFind checks t target R budget → answer ≡ refused (outsideRadius R)
       back (f, n, k, o, h) =
           let r = call .ready f in
-          let same = same-length (opened t target R) (openedPrefixes t target R) (o .all) (opened-once t target (r .limits) R (r .finite) (r .plus)) (o .once) ∙ o .long in
-          let w = outside-exactly t target (r .limits) R (r .finite) (r .plus) budget .1 (n, le-trans (le-of-eq same) h) in
-          by-walk f ∙ ap (endOfNearest none) (w .2) ∙ end-nothing none (w .0) (w .1)
+          let w = outside-exactly t target (r .limits) R (r .finite) (r .plus) budget .1 (n, le-trans (le-of-eq (only-number-of-prefixes r o)) h) in
+          by-walk f ∙ ap (endOfNearest R) (w .2) ∙ end-nothing R (w .0) (w .1)

@@ -1,4 +1,4 @@
--- The widened radius has the sign plus and is the same for both zeros, and with a candidate within the radius the search at it never ends with no best, so number 17 cannot come. The point of `nearest_plane` is such a candidate for its own distance. Assumes nothing.
+-- The widened radius has the sign plus and is the same for both zeros, and with a candidate within the radius the search at it never ends with no best. The point of `nearest_plane` is such a candidate for its own distance. Assumes nothing.
 use mathlib.Core.Path.{_≡_, refl, sym, ap, _∙_, subst}
 use mathlib.Core.Logic.{_⊎_, inl, inr}
 use Prim.Native.Nat.{ℕ, zero, suc, _+_, _≤_, _<_}

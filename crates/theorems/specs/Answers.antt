@@ -14,7 +14,7 @@ use Rattle.definitions.specs.Admitted.{isVector, admitted, opened}
 use Rattle.definitions.specs.Walk.{Walked, ended, exhausted}
 use Rattle.definitions.specs.Nearest.{Best, no-best, best}
 use Rattle.definitions.specs.Listing.{ListPoint, sorted}
-use Rattle.definitions.specs.Refusals.{Refusal, real, budgetExhausted, listFull}
+use Rattle.definitions.specs.Refusals.{Refusal, real, budgetExhausted, outsideRadius, listFull}
 use Rattle.definitions.specs.Checks.{Verdict, pass, refuse}
 use Rattle.definitions.specs.Calls.{Answer, found, refused, NearestPoint, ListAnswer, written, coordinates}
 use Rattle.theorems.specs.Counting.{EachOnce, NumberOf}
@@ -33,10 +33,10 @@ pub record Listed (t : Table) (target : List Float) (R : Float) (found : List Li
   pub own : OwnDistances t target found
   pub nodes : NumberOf (opened t target R) m
 
--- the answer and the output slice at exit, for each end of the walk; `none` is the refusal if nothing was found
-pub record EndsAsWalk (none : Refusal) (w : Walked Best) (out : List ℤ) (answer : Answer NearestPoint) (out′ : List ℤ) : Type 0 where
+-- the answer and the output slice at exit, for each end of the walk from R
+pub record EndsAsWalk (R : Float) (w : Walked Best) (out : List ℤ) (answer : Answer NearestPoint) (out′ : List ℤ) : Type 0 where
   pub point : (z : List ℤ) (S : Float) (m : ℕ) → w ≡ ended (best z) S m → (answer ≡ found (record { nodes = m; distance = S; point = z })) × (out′ ≡ z)
-  pub nothing : (S : Float) (m : ℕ) → w ≡ ended no-best S m → (answer ≡ refused none) × (out′ ≡ out)
+  pub nothing : (S : Float) (m : ℕ) → w ≡ ended no-best S m → (answer ≡ refused (outsideRadius R)) × (out′ ≡ out)
   pub exhaustion : (m : ℕ) (S : Float) → w ≡ exhausted m S → (answer ≡ refused (budgetExhausted m S)) × (out′ ≡ out)
 
 -- the same of `list`, with both slices
@@ -67,7 +67,7 @@ NoMinusZero e = List·Memᴰ (real minusZero) (e .values) → ⊥
 abbrev pub Under : ℕ → ℕ → Refusal → Type 0
 Under j k e = (e .number ≡ j) ⊎ (e .number ≡ k)
 
--- what promise 1 says of a call with these checks, whose walk can end it under j and k; `Unchanged` says that the slices at exit hold what they held
+-- what promise 1 says of a call with these checks, whose walk can end it under j and k, which may be the same; `Unchanged` says that the slices at exit hold what they held
 pub record Demand1 {A : Type 0} (checks : List Verdict) (j k : ℕ) (answer : Answer A) (Unchanged : Type 0) : Type 0 where
   -- refused under a number other than j and k exactly by the first check that fits, with its number and its values
   pub refuses : (e : Refusal) → FirstFits checks e ↔ ((answer ≡ refused e) × (Under j k e → ⊥))

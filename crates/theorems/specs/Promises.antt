@@ -1,7 +1,7 @@
 -- What each call promises of its answer and of the slices it leaves (docs/SPECIFICATION.md, "What is promised"): a record for each call, for every input of doubles. Definitions only.
--- `answer` and the primed slices are what the caller gets. Beside "where no check fits", n ≤ 23 stands where a promise is made up to dimension 23.
+-- `answer` and the primed slices are what the caller gets. Beside "where no check fits", n ≤ 23 stands where a promise is made up to dimension 23 and its checks do not say so.
 use mathlib.Core.Path.{_≡_}
-use mathlib.Core.List.{List, map}
+use mathlib.Core.List.{List, [], map}
 use mathlib.Core.Logic.{_⊎_, _↔_}
 use Prim.Native.Nat.{ℕ, _≤_, _<_}
 use lib.Dec.{T}
@@ -15,7 +15,7 @@ use Rattle.definitions.specs.Admitted.{isVector, admitted, opened}
 use Rattle.definitions.specs.Nearest.{nearestWalk}
 use Rattle.definitions.specs.Listing.{ListPoint, listWalk}
 use Rattle.definitions.specs.Seeds.{nearestPlane, widened}
-use Rattle.definitions.specs.Refusals.{Refusal, budgetExhausted, outsideRadius, noSeed, listFull}
+use Rattle.definitions.specs.Refusals.{Refusal, budgetExhausted, outsideRadius, listFull}
 use Rattle.definitions.specs.Checks.{Verdict, pass, notFinite, targetFault, handedOn}
 use Rattle.definitions.specs.Calls.{Answer, found, refused, NearestPoint, checksOfNearest, nearest, checksOfSeeded, nearestSeeded, mlRadius, checksOfMl, nearestOutput, ListAnswer, list, listDistances, listPoints, written, coordinates, checksOfList, checksOfRound, checksOfPlane}
 use Rattle.theorems.specs.Counting.{NumberOf}
@@ -41,11 +41,10 @@ pub record NearestNodes (t : Table) (target : List Float) (R : Float) (budget : 
   -- 15 carries the budget as its count, and the radius that stood
   pub values-of-15 : (m : ℕ) (S : Float) → answer ≡ refused (budgetExhausted m S) → (m ≡ budget) × StandingRadius t target R S
 
--- what all three promise, whose checks are these; `none` is the refusal if the walk finds nothing
-pub record SearchPromises (checks : List Verdict) (none : Refusal) (t : Table) (target : List Float) (R : Float) (budget : ℕ) (out : List ℤ) (answer : Answer NearestPoint) (out′ : List ℤ) : Type 0 where
-  -- refused by the first check that fits, with its number and values; where none fits, a point or 15 or the number of `none`;
-  -- a refusal leaves out as it was
-  pub demand-1 : Demand1 checks 15 (none .number) answer (out′ ≡ out)
+-- what all three promise, whose checks are these; once they have passed, 15 and k are the only refusals: k is 16 for `nearest`, and 15 for the other two
+pub record SearchPromises (checks : List Verdict) (k : ℕ) (t : Table) (target : List Float) (R : Float) (budget : ℕ) (out : List ℤ) (answer : Answer NearestPoint) (out′ : List ℤ) : Type 0 where
+  -- refused by the first check that fits, with its number and values; where none fits, a point or 15 or k; a refusal leaves out as it was
+  pub demand-1 : Demand1 checks 15 k answer (out′ ≡ out)
   -- the first check that fits has the least number that fits
   pub least-number : FirstIsLeast checks
   -- 3, 4, 5 and 7 carry the first index
@@ -53,7 +52,7 @@ pub record SearchPromises (checks : List Verdict) (none : Refusal) (t : Table) (
   -- no refusal carries minus zero
   pub no-minus-zero : (e : Refusal) → answer ≡ refused e → NoMinusZero e
   -- where no check fits: the same point, count and distance as the walk, or the same refusal and numbers; and out
-  pub ends : NoneFits checks → EndsAsWalk none (nearestWalk t target R budget) out answer out′
+  pub ends : NoneFits checks → EndsAsWalk R (nearestWalk t target R budget) out answer out′
   -- a point found: out holds a vector of n signed 64-bit integers, admitted at R, and no such vector has a smaller computed distance
   pub point : dimension t ≤ 23 → (a : NearestPoint) → answer ≡ found a → Nearest t target R out′
   -- its distance is the computed distance of what out holds, which does not overflow
@@ -62,6 +61,10 @@ pub record SearchPromises (checks : List Verdict) (none : Refusal) (t : Table) (
   pub zero-distance : dimension t ≡ 0 → (a : NearestPoint) → answer ≡ found a → a .distance ≡ plusZero
   -- where no check fits: the number of opened prefixes, and what it says of the budget and the count
   pub nodes : dimension t ≤ 23 → NoneFits checks → NearestNodes t target R budget answer
+
+-- a point is found, and out holds it
+abbrev pub PointWritten : Answer NearestPoint → List ℤ → Type 0
+PointWritten answer out′ = (a : NearestPoint) × (answer ≡ found a) × (out′ ≡ a .point)
 
 -- no check fits, no vector is admitted, and the budget is at least the number of opened prefixes
 abbrev pub NothingToFind : List Verdict → Table → List Float → Float → ℕ → Type 0
@@ -74,7 +77,7 @@ module _ (t : Table) (target : List Float) (out : List ℤ) (radius : Float) (bu
   nearestCallChecks = checksOfNearest largestDimension t target out radius budget
 
   pub record NearestPromises (answer : Answer NearestPoint) (out′ : List ℤ) : Type 0 where
-    pub search : let R = handedOn radius in SearchPromises nearestCallChecks (outsideRadius R) t target R budget out answer out′
+    pub search : let R = handedOn radius in SearchPromises nearestCallChecks 16 t target R budget out answer out′
     -- 16 if and only if no check fits, no vector is admitted, and the budget has a node for every opened prefix
     pub gives-16 : dimension t ≤ 23 → let R = handedOn radius in (answer ≡ refused (outsideRadius R)) ↔ NothingToFind nearestCallChecks t target R budget
     -- where no check fits, the call's own radius admits and opens what the radius handed on does
@@ -87,21 +90,31 @@ module _ (t : Table) (target : List Float) (out : List ℤ) (radius : Float) (bu
         (distances : List Float) (points : List ℤ) (listBudget : ℕ) (l : ListAnswer) → list t target distances points radius listBudget ≡ found l →
         BeginsAt (a .distance) (l .points)
 
+-- what a search from a candidate promises beside, its checks having passed; R is the widened radius
+pub record FromCandidate (t : Table) (target : List Float) (candidate : List ℤ) (R : Float) (budget : ℕ) (out : List ℤ) (answer : Answer NearestPoint) (out′ : List ℤ) : Type 0 where
+  -- n of 1 or more: R is strictly above the candidate's distance
+  pub above : 1 ≤ dimension t → T (lt (distance t target candidate) R)
+  -- n = 0: the empty point, without a node
+  pub empty-point : dimension t ≡ 0 → (answer ≡ found (record { nodes = 0; distance = plusZero; point = [] })) × (out′ ≡ [])
+  -- a budget with a node for every prefix opened at R: a point is written
+  pub gives-point : (prefixes : ℕ) → NumberOf (opened t target R) prefixes → prefixes ≤ budget → PointWritten answer out′
+  -- every budget: a point is written, or the answer is 15; nothing else
+  pub point-or-15 : PointWritten answer out′ ⊎ ((S : Float) × (answer ≡ refused (budgetExhausted budget S)) × (out′ ≡ out))
+  -- the answer and what out holds are those of `nearest` at R
+  pub as-nearest : let same = nearest t target out R budget in (answer ≡ same) × (out′ ≡ nearestOutput same out)
+
 -- `nearest_seeded`
 module _ (t : Table) (target : List Float) (out candidate : List ℤ) (radius : Float) (budget : ℕ) where
   abbrev pub seededCallChecks : List Verdict
   seededCallChecks = checksOfSeeded largestDimension t target out candidate radius budget
 
   pub record SeededPromises (answer : Answer NearestPoint) (out′ : List ℤ) : Type 0 where
-    pub search : let R = widened (dimension t) (handedOn radius) in SearchPromises seededCallChecks (noSeed R) t target R budget out answer out′
-    -- 17 never comes
-    pub never-17 : dimension t ≤ 23 → (e : Refusal) → answer ≡ refused e → e .number ≡ 17 → ⊥
+    pub search : let R = widened (dimension t) (handedOn radius) in SearchPromises seededCallChecks 15 t target R budget out answer out′
+    pub from-candidate : NoneFits seededCallChecks → FromCandidate t target candidate (widened (dimension t) (handedOn radius)) budget out answer out′
     -- where no check fits, the call's own radius is widened to what the radius handed on is
     pub own-radius : NoneFits seededCallChecks → widened (dimension t) radius ≡ widened (dimension t) (handedOn radius)
     -- at minus zero the answer and what out holds are those at plus zero
     pub at-minus-zero : radius ≡ minusZero → let zero = nearestSeeded t target out candidate plusZero budget in (answer ≡ zero) × (out′ ≡ nearestOutput zero out)
-    -- where no check fits, the walk starts from a radius strictly above the candidate's distance
-    pub above : 1 ≤ dimension t → dimension t ≤ 23 → NoneFits seededCallChecks → T (lt (distance t target candidate) (widened (dimension t) (handedOn radius)))
 
 -- `nearest_ml`
 module _ (t : Table) (target : List Float) (out : List ℤ) (budget : ℕ) where
@@ -109,11 +122,8 @@ module _ (t : Table) (target : List Float) (out : List ℤ) (budget : ℕ) where
   mlCallChecks = checksOfMl largestDimension t target out budget
 
   pub record MlPromises (answer : Answer NearestPoint) (out′ : List ℤ) : Type 0 where
-    pub search : let R = widened (dimension t) (mlRadius t target) in SearchPromises mlCallChecks (noSeed R) t target R budget out answer out′
-    -- 17 never comes
-    pub never-17 : dimension t ≤ 23 → (e : Refusal) → answer ≡ refused e → e .number ≡ 17 → ⊥
-    -- where no check fits, the walk starts from a radius strictly above the distance of the nearest-plane point
-    pub above : 1 ≤ dimension t → dimension t ≤ 23 → NoneFits mlCallChecks → T (lt (distance t target (nearestPlane t target .point)) (widened (dimension t) (mlRadius t target)))
+    pub search : let R = widened (dimension t) (mlRadius t target) in SearchPromises mlCallChecks 15 t target R budget out answer out′
+    pub from-candidate : NoneFits mlCallChecks → FromCandidate t target (nearestPlane t target .point) (widened (dimension t) (mlRadius t target)) budget out answer out′
 
 -- ---- list
 

@@ -67,14 +67,13 @@ fn agrees(error: DecodeError, report: Report) -> bool {
     numbers.contains(&report.number) && Report { number: 0, ..report } == same
 }
 
-/// 15 to 17, which a walk ends with.
+/// 15 and 16, which a walk ends with. A seeded or ml search never ends with 16: there it is a disagreement.
 fn search_refusal(call: Call, error: DecodeError) -> Report {
     match (error, call) {
         (DecodeError::BudgetExhausted { nodes, radius_sq }, _) => {
             Report { number: 15, first: nodes, second: 0, real: minus_as_plus(radius_sq).to_bits() }
         }
         (DecodeError::OutsideRadius { radius_sq }, Call::Nearest) => Report::double(16, minus_as_plus(radius_sq)),
-        (DecodeError::OutsideRadius { radius_sq }, Call::Seeded | Call::Ml) => Report::double(17, radius_sq),
         _ => Report::whole(UNKNOWN, 0, 0),
     }
 }

@@ -7,6 +7,9 @@ use std::time::Duration;
 const DIMENSIONS: usize = 25;
 const NUMBERS: usize = 19;
 
+/// No answers of a call: 1 is the job program's, and 17 is free.
+const NO_ANSWERS: [usize; 2] = [1, 17];
+
 /// The refusals that carry the radius which 8 hands on, 15 until a leaf is found. In a seeded search 15 has another.
 const CARRYING: [(Call, u32); 4] = [(Call::Seeded, 12), (Call::Nearest, 15), (Call::List, 15), (Call::Nearest, 16)];
 
@@ -77,10 +80,11 @@ impl Tally {
     /// Two markdown tables and three lines.
     #[must_use]
     pub fn text(&self, time: Duration) -> String {
+        let answers: Vec<usize> = (0..NUMBERS).filter(|k| !NO_ANSWERS.contains(k)).collect();
         let mut text = String::from("| call | success |");
-        text.extend((2..NUMBERS).map(|k| format!(" {k} |")));
-        text.push_str(&format!("\n|---|{}\n", "---:|".repeat(NUMBERS - 1)));
-        let numbers = |cells: &[u64]| [&cells[..1], &cells[2..]].concat();
+        text.extend(answers[1..].iter().map(|k| format!(" {k} |")));
+        text.push_str(&format!("\n|---|{}\n", "---:|".repeat(answers.len())));
+        let numbers = |cells: &[u64]| answers.iter().map(|k| cells[*k]).collect::<Vec<_>>();
         for call in CALLS {
             text.push_str(&row(call.name(), &numbers(&self.by_number[call as usize])));
         }

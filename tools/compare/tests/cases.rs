@@ -78,6 +78,13 @@ fn h_and_i() {
     found(&case(Call::Nearest, 1.0 + ULP, 4), &[0, 1], 4, 1.0);
     let list = case(Call::List, 1.0 + ULP, 6).with_places(9);
     answers(&list, Report::whole(0, 6, 4), &[0, 0, 0, 1, 1, 0, 1, 1], &[1.0; 4]);
+    // from a candidate at the radius 1; widened that opens 10 prefixes, and the walk, whose radius shrinks, tries 6
+    for call in [Call::Seeded, Call::Ml] {
+        let from = |budget| case(call, 1.0, budget).with_candidate(&[0, 0]);
+        found(&from(100), &[0, 1], 6, 1.0);
+        found(&from(6), &[0, 1], 6, 1.0);
+        refused(&from(5), exhausted(5, 1.0));
+    }
 }
 
 #[test]

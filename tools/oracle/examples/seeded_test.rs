@@ -1,7 +1,8 @@
 //! The run test `seeded_test` as Rust, with the original in the place of the crate `seeded`: what it prints is what is
 //! stored in crates/seeded_test/stdout. A distance is that of the original's `triangular_distance`. Refusals 2 to 5 and
 //! 9, which the original does not have, are the specification's. By it the original's LengthMismatch is 6 or 10, its
-//! InvalidRadius 8, 11, 12 or 13, and its OutsideRadius 17.
+//! InvalidRadius 8, 11, 12 or 13, and its OutsideRadius 16, as in `nearest`. This never comes: the candidate lies
+//! strictly inside the widened radius, and at n = 0 the empty vector is found.
 
 #![allow(dead_code, clippy::too_many_arguments)]
 
@@ -49,7 +50,6 @@ mod seeded {
                 DecodeError::InvalidRadius { radius_sq } if radius.is_finite() && radius >= 0.0 => {
                     candidate_fault(table, target, candidate, radius, radius_sq)
                 }
-                DecodeError::OutsideRadius { radius_sq } => Refusal::NoSeed(radius_sq),
                 _ => common::refusal(error),
             })?;
             Ok(NearestPoint::new(table, target, out, nodes))
@@ -66,7 +66,6 @@ mod seeded {
                     let (seed, _) = oracle::nearest_plane(table, target, target.len()).unwrap();
                     candidate_fault(table, target, &seed, f64::INFINITY, radius_sq)
                 }
-                DecodeError::OutsideRadius { radius_sq } => Refusal::NoSeed(radius_sq),
                 _ => common::refusal(error),
             })?;
             Ok(NearestPoint::new(table, target, out, nodes))

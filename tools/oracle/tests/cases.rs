@@ -68,6 +68,8 @@ fn h_and_i() {
     refused(list(&table, &target, radius, 4), BudgetExhausted { nodes: 4, radius_sq: radius });
     let points = [[0, 0], [0, 1], [1, 0], [1, 1]].map(|z| (1.0, z.to_vec())).to_vec();
     is(list(&table, &target, radius, 6), (points, 6));
+    is(nearest_seeded(&table, &target, 2, &[0, 0], 1.0, 6), (vec![0, 1], 6, 1.0));
+    is(nearest_ml(&table, &target, 2, 6), (vec![0, 1], 6, 1.0));
 }
 
 #[test]

@@ -2,10 +2,7 @@
 use mathlib.Core.Path.{_≡_, ap, sym, _∙_}
 use lib.Ieee.{Float}
 use Rattle.definitions.specs.Table.{table, largestDimension}
-use Rattle.definitions.specs.Nearest.{nearestWalk}
-use Rattle.definitions.specs.Refusals.{outsideRadius}
-use Rattle.definitions.specs.Checks.{pass}
-use Rattle.definitions.specs.Calls.{endOfNearest, nearestChecks}
+use Rattle.definitions.specs.Calls.{nearestWithin, nearestChecks}
 use Rattle.definitions.proofs.Passed.{nearest-passed, walk-shaped}
 use Rattle.definitions.proofs.Answers.{nearest-checks-are, nearest-refused, nearest-checked}
 use Rattle.refusals.specs.Numbers.{verdict, numbered}
@@ -46,7 +43,7 @@ returns-2 c =
     let a = at .before .before .before .before .before .args in
     let t = table (a .weights .now) (a .mu .now) in
     answered-as
-    (ap (λ (R : Float). endOfNearest (outsideRadius R) (nearestWalk t (a .target .now) R (a .budget))) (start .handed-on .ensures)
+    (ap (λ (R : Float). nearestWithin t (a .target .now) R (a .budget)) (start .handed-on .ensures)
     ∙ sym (nearest-checked t (a .target .now) (a .out .now) (a .radius) (a .budget) (checks-are at ∙ ap verdict (told .enum-told .given .1))))
     (ran .nearest-within .ensures)
 

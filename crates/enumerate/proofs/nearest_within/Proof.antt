@@ -1,10 +1,10 @@
 -- `nearest_within` meets its contract: its answer is that of its walk's end. Assumes nothing.
-use mathlib.Core.Path.{ap, _∙_}
+use mathlib.Core.Path.{ap, sym, _∙_}
 use Rattle.definitions.specs.Table.{table}
 use Rattle.definitions.specs.Nearest.{nearestWalk}
 use Rattle.definitions.specs.Calls.{endOfNearest}
-use Rattle.refusals.specs.Numbers.{numbered}
-use Rattle.enumerate.proofs.Answers.{output-walked}
+use Rattle.definitions.proofs.Answers.{within-is}
+use Rattle.enumerate.proofs.Answers.{output-walked, answered-as}
 use borrow.Author.Needs.{needs}
 use Rattle.enumerate.proofs.nearest_within.Statement.{statement}
 use Rattle.enumerate.proofs.nearest_within.Tie as tie
@@ -13,12 +13,13 @@ returns : tie.Need-returns
 returns c =
     let at = c .before .before in
     let a = at .before .before .before .before .before .args in
-    let none = numbered (a .none) in
+    let t = table (a .weights .now) (a .mu .now) in
     let walked = at .nearest-walk .ensures in
-    record {
-      tells = c .answer-of .ensures _ ∙ ap (endOfNearest none) (walked .tells);
-      writes = walked .writes ∙ output-walked none (nearestWalk (table (a .weights .now) (a .mu .now)) (a .target .now) (a .radius) (a .budget)) (a .out .now);
-    }
+    answered-as (sym (within-is t (a .target .now) (a .radius) (a .budget)))
+    (record {
+      tells = c .answer-of .ensures _ ∙ ap (endOfNearest (a .radius)) (walked .tells);
+      writes = walked .writes ∙ output-walked (a .radius) (nearestWalk t (a .target .now) (a .radius) (a .budget)) (a .out .now);
+    })
 
 pub nearest-within-spec : {M : Type 1} → statement M
 nearest-within-spec =

@@ -1,10 +1,8 @@
--- `widened_search` meets its contract: it answers as the walk inside the widened radius ends. Assumes nothing.
+-- `widened_search` meets its contract: it is the search of `nearest`, at the widened radius. Assumes nothing.
 use mathlib.Core.Path.{ap, sym, _∙_}
 use lib.Ieee.{Float}
 use Rattle.definitions.specs.Table.{table}
-use Rattle.definitions.specs.Nearest.{nearestWalk}
-use Rattle.definitions.specs.Refusals.{noSeed}
-use Rattle.definitions.specs.Calls.{endOfNearest}
+use Rattle.definitions.specs.Calls.{nearestWithin}
 use Rattle.definitions.proofs.Answers.{widened-search-is}
 use Rattle.enumerate.proofs.Answers.{answered-as}
 use borrow.Author.Needs.{needs}
@@ -18,7 +16,7 @@ returns c =
     let a = at .before .before .before .before .args in
     let t = table (a .weights .now) (a .mu .now) in
     answered-as
-    (ap (λ (R : Float). endOfNearest (noSeed R) (nearestWalk t (a .target .now) R (a .budget))) (at .widened-radius .ensures)
+    (ap (λ (R : Float). nearestWithin t (a .target .now) R (a .budget)) (at .widened-radius .ensures)
     ∙ sym (widened-search-is t (a .target .now) (a .radius) (a .budget)))
     (ran .nearest-within .ensures)
 

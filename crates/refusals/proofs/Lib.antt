@@ -1,0 +1,2 @@
+-- Laws about the refusals.
+pub mod Free
