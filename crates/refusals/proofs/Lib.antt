@@ -1,2 +1,2 @@
 -- Laws about the refusals.
-pub mod Free
+pub mod FreeNumber
