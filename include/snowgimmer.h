@@ -1,4 +1,4 @@
-/* The integer search over a triangular table: the vector of 64-bit integers that is nearest to a target.
+/* Snowgimmer, a search by a triangular table: the vector of 64-bit integers that is nearest to a target.
  *
  * WHAT IS MINIMISED. For a table of n weights w and entries mu and a target t, all doubles, the vector z of n signed
  * 64-bit integers with the least
@@ -71,8 +71,8 @@
 
 #define SNOWGIMMER_VERSION_MAJOR 0
 #define SNOWGIMMER_VERSION_MINOR 8
-#define SNOWGIMMER_VERSION_PATCH 0
-#define SNOWGIMMER_VERSION "0.8.0"
+#define SNOWGIMMER_VERSION_PATCH 1
+#define SNOWGIMMER_VERSION "0.8.1"
 
 /* The largest n. */
 #define SNOWGIMMER_LARGEST_DIMENSION 23
@@ -190,7 +190,7 @@ uint32_t snowgimmer_nearest_ml(const double *weights, size_t weights_len, const 
 /* Lists every integer vector admitted at the radius, by distance and then coordinates: the distances go to distances,
  * at most 4096, and n coordinates for each to points, which is n times as long. first is the number of nodes, second
  * that of points; what lies behind the last point stays as it was. Refused: 2 to 9, 14, 15, 18; 18 tells how many
- * places would do. Stack: 0.95 MB. */
+ * points there are, and so many places would do if they are at most 4096. Stack: 0.95 MB. */
 uint32_t snowgimmer_list(const double *weights, size_t weights_len, const double *mu, size_t mu_len,
     const double *target, size_t target_len, double *distances, size_t distances_len, int64_t *points,
     size_t points_len, double radius, uint64_t budget, uint64_t *first, uint64_t *second, double *real);

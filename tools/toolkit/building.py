@@ -2,11 +2,10 @@
 
 import pathlib
 import shutil
-import signal
 import subprocess
 import tempfile
 
-from toolkit import streams
+from toolkit import running, streams
 
 ROOT = pathlib.Path(__file__).resolve().parents[2]
 # The command that builds each product, which proves it first.
@@ -36,8 +35,9 @@ def waited(process, clock):
                 clock.clear()
 
 
-def build(name, product):
-    """The product's path, when it is there. `name` is the command's, for what it says."""
+def build(name, product, shown=20):
+    """The product's path, when it is there. `name` is the command's, for what it says. If the building fails, as many
+    of its last lines are told; with 0 all of them."""
     path = ROOT / product
     if path.is_file():
         return path
@@ -46,19 +46,13 @@ def build(name, product):
         raise NotBuilt(reason)
     command = COMMANDS[product]
     streams.say(f"{name}: {product} is not built: running `{command}`, which proves it first; that takes some minutes")
-    with tempfile.TemporaryFile() as log:
-        process = None
-        try:
-            with streams.signals_held() as released:
-                process = subprocess.Popen(command.split(), cwd=ROOT, stdin=subprocess.DEVNULL, stdout=log, stderr=log, preexec_fn=released)
+    with tempfile.TemporaryFile() as log, running.temporary_folder() as temporary:
+        options = {"cwd": ROOT, "env": running.environment(temporary), "stdin": subprocess.DEVNULL}
+        with running.started(command.split(), stdout=log, stderr=log, **options) as process:
             status = waited(process, streams.Clock(f"{name}: building"))
-        except BaseException:
-            if process is not None:
-                streams.end(process, signal.SIGTERM)
-            raise
         log.seek(0)
-        last = log.read().decode(errors="replace").splitlines()[-20:]
+        lines = log.read().decode(errors="replace").splitlines()
     if status != 0 or not path.is_file():
-        said = "".join(f"\n    {line}" for line in last)
+        said = "".join(f"\n    {line}" for line in lines[-shown:])
         raise NotBuilt(f"{product} is not built: `{command}` ended with {streams.ending(status)}{said}")
     return path

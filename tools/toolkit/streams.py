@@ -87,6 +87,11 @@ def write_output(data):
         raise Unusable(f"can't write standard output: {fault.strerror}") from None
 
 
+def show(text):
+    """Writes a line to standard output."""
+    write_output((text + "\n").encode(errors="backslashreplace"))
+
+
 def _replace(name, data):
     """Writes a file beside the named one and gives it that name when it is whole."""
     name = os.path.realpath(name)  # a link stays a link

@@ -10,17 +10,17 @@ This is (t-z)' L W L' (t-z) with W = diag(w) and L the unit lower triangular mat
 column i. DISTANCE AND RADIUS ARE SQUARES, as this sum is. Both are computed in doubles, and "nearest" is by the
 computed distance.
 
-Arguments, the same in every function:
+Arguments, which mean the same in every function that takes them:
 
     weights  n numbers, finite and above 0
     mu       n rows of n numbers, or the n*n numbers flat, row by row. Only mu[j][i] with j > i, below the diagonal, is
-             read; the rest may hold anything. A transposed table gives another table's nearest point, without a word
+             read; the rest may hold anything. A transposed table gives another table's nearest point, unnoticed
     target   n numbers, up to 2**52 in magnitude
     radius   the square of the largest length that is searched, finite and not negative; minus zero counts as 0
     budget   how many nodes the search may try, up to 2**60; a search with more to try is refused. A call can't be
              interrupted, so choose one that ends in time
 
-A sequence is a list, a tuple, an array or the like. Numbers that no double is exactly, integers beyond 64 bits, bools
+A sequence is a list, a tuple, an array or the like. Numbers that are no double exactly, integers beyond 64 bits, bools
 and strings raise ValueError or TypeError, and so do arrays of a wrong shape or in column-major order. What the library
 refuses raises a `Refusal`, which has a class for each number.
 
@@ -41,7 +41,7 @@ refuses raises a `Refusal`, which has a class for each number.
     >>> ratio([each.distance for each in listed.points], radius=2, p=3, q=1)
     <Ratio.FAILS: 'fails'>
 
-In positioning a point's integers are cycles against one reference satellite. When that one sets, take another:
+In positioning a point's integers are cycles relative to a reference satellite. If that is lost, take another:
 
     >>> change_reference((0, 1), reference=1)
     (-1, -1)
@@ -61,7 +61,7 @@ from .refusals import (
     SettingRange, TableSize, WeightRange, WidenedRadius)
 from .refusals import refusal as _refusal
 
-__version__ = "0.8.0"
+__version__ = "0.8.1"
 
 LARGEST_DIMENSION = 23
 LARGEST_LIST = 4096

@@ -165,7 +165,7 @@ class ListFull(Refusal):
 
     number = 18
     fields = ("points",)
-    sentence = "the list has {points} points, more than there are places: give as many places, or a smaller radius"
+    sentence = "the list has {points} points, more than there are places: give as many places, 4096 at most, or a smaller radius"
 
 
 class ReferenceIndex(Refusal):

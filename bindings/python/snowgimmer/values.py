@@ -1,6 +1,6 @@
 """From Python's values to the library's: doubles, signed 64-bit integers, row-major tables.
 
-Nothing is bent on the way. What is no exact double or 64-bit integer is a TypeError or a ValueError that names it.
+No value is changed. What is no exact double or 64-bit integer is a TypeError or a ValueError that names it.
 """
 
 import ctypes

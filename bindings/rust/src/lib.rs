@@ -31,10 +31,10 @@
 //! # Ok::<(), Refusal>(())
 //! ```
 //!
-//! [`Table`] gives points by value. The functions beside it write to slices that they are lent, and have the names and
-//! arguments of the Rust original, which has no [`change_reference`] and no [`ratio`]. The latter is the verdict on a
-//! list, whether its first point stands out. [`TriangleCheck`] checks a table's entries one at a time, while the table
-//! is being received. Every one is that of the proved library: for all inputs its answer is the one that the library's
+//! [`Table`] gives points by value. The functions beside it write to slices that they are lent, and have the names of
+//! the Rust original's, which has no [`change_reference`] and no [`ratio`]. The latter is the verdict on a list, whether
+//! its first point stands out. [`TriangleCheck`] checks a table's entries one at a time, while the table is being
+//! received. Every one is that of the proved library: for all inputs its answer is the one that the library's
 //! contract fixes, and a refusal leaves every slice that it was lent as it was.
 //!
 //! The crate needs no standard library, allocates nothing and keeps nothing between calls. The variable SNOWGIMMER_LIB

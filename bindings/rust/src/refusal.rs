@@ -202,7 +202,7 @@ impl fmt::Display for Refusal {
                 write!(f, "no vector is inside the radius {radius:?}: a larger one may do")
             }
             Self::ListFull { points } => {
-                write!(f, "the list has {points} points: lend as many places, or lower the radius")
+                write!(f, "the list has {points} points: lend as many places, 4096 at most, or lower the radius")
             }
             Self::ReferenceIndex => {
                 write!(

@@ -46,7 +46,7 @@ fn or_else(first: Verdict, second: Verdict) -> Verdict
 }
 
 // 2 to 5, for at most `largest` weights. The entries are looked at once their number is known.
-fn table_check(largest: usize, weights: &[f64], mu: &[f64]) -> Verdict
+pub fn table_check(largest: usize, weights: &[f64], mu: &[f64]) -> Verdict
     requires { ⌜ largest ≤ 64 ⌝ }
     ensures { λ r. ⌜ verdict r ≡ firstRefusal (tableChecks largest (tableAt weights mu)) ⌝ }
 {
@@ -55,6 +55,16 @@ fn table_check(largest: usize, weights: &[f64], mu: &[f64]) -> Verdict
         return size;
     }
     or_else(triangle_check(mu, weights.len()), weight_check(weights))
+}
+
+// 6 of the target and of the output, which must be n long, then 7.
+pub fn target_output_check(n: usize, target: &[f64], out: &[i64]) -> Verdict
+    ensures { λ r. ⌜ verdict r ≡ firstRefusal (C.targetChecks n (atEntry target) (atEntry out)) ⌝ }
+{
+    let target_length = length_check(n, target.len());
+    let output_length = length_check(n, out.len());
+    let values = or_else(output_length, target_check(target));
+    or_else(target_length, values)
 }
 
 // 2 to 5, 6 of the target and of the output, then 7: what `nearest`, `nearest_seeded` and `nearest_ml` check first, and
@@ -70,10 +80,7 @@ pub fn search_check(
     ensures { λ r. ⌜ verdict r ≡ firstRefusal (C.searchChecks largest (tableAt weights mu) (atEntry target) (atEntry out)) ⌝ }
 {
     let table = table_check(largest, weights, mu);
-    let target_length = length_check(weights.len(), target.len());
-    let output_length = length_check(weights.len(), out.len());
-    let values = or_else(output_length, target_check(target));
-    or_else(table, or_else(target_length, values))
+    or_else(table, target_output_check(weights.len(), target, out))
 }
 
 // The radius that a call hands on once check 8 has passed: its own, but plus zero where that is minus zero.

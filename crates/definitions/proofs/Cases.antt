@@ -8,10 +8,11 @@ use lib.ListN.{length, replicate}
 use lib.IntN.{ℤ, pos, negsuc}
 use lib.Ieee.{Float, fin, inf, nan, binary64, ofBits, toBits}
 use Rattle.rounding.specs.Integers.{roundAway}
-use Rattle.definitions.specs.Table.{Table, plusZero, minusZero, one, coordLimit, largestDimension}
+use Rattle.definitions.specs.Table.{Table, table, plusZero, minusZero, one, coordLimit, largestDimension}
 use Rattle.definitions.specs.Distance.{partial}
 use Rattle.definitions.specs.Admitted.{admitted}
 use Rattle.definitions.specs.Listing.{ListPoint}
+use Rattle.definitions.specs.Seeds.{Plane, nearestPlane}
 use Rattle.definitions.specs.Refusals.{muNonFinite, muRange, outsideRadius, budgetExhausted, listFull, nonFinite, invalidRadius, candidateOutside, budgetRange, referenceIndex, changedRange, settingRange}
 use Rattle.definitions.specs.Checks.{Verdict, pass, refuse, firstRefusal, tableChecks}
 use Rattle.definitions.specs.Entries.{Entry, entryOf, fedAll}
@@ -356,6 +357,13 @@ jobB = sectionOf (bits (four ∷ [])) ++ sectionOf [] ++ sectionOf (bits targetB
 abbrev printedB : List ℕ
 printedB = text "nearest 1 3FD0000000000000 1\nlist 1 1\n3FD0000000000000 1\nratio open\n"
 
+-- ---- I as a job: the list begins with another point than `nearest` gives
+abbrev jobI : List ℕ
+jobI = sectionOf (bits (tableH .weights)) ++ sectionOf (bits (plusZero ∷ [])) ++ sectionOf (bits targetH) ++ sectionOf (bits (aboveOne ∷ [])) ++ sectionOf (6 ∷ [])
+
+abbrev printedI : List ℕ
+printedI = text "nearest 4 3FF0000000000000 0 1\nlist 6 4\n3FF0000000000000 0 0\n3FF0000000000000 0 1\n3FF0000000000000 1 0\n3FF0000000000000 1 1\nratio fails\n"
+
 -- ---- E as a job
 abbrev jobE : List ℕ
 jobE = sectionOf (bits (one ∷ [])) ++ sectionOf [] ++ sectionOf (bits targetE) ++ sectionOf (bits (one ∷ [])) ++ sectionOf (2 ∷ [])
@@ -562,10 +570,24 @@ settingVerdicts =
     ∷ refuse (settingRange 0)
     ∷ []
 
+-- ---- nearest_plane: what is left of minus zero, and of the largest double, whose sum is infinite
+abbrev planeCases : List Plane
+planeCases =
+    nearestPlane (table (one ∷ []) (nan ∷ [])) (minusZero ∷ [])
+    ∷ nearestPlane (table (one ∷ one ∷ []) (nan ∷ nan ∷ two ∷ nan ∷ [])) (plusZero ∷ largest ∷ [])
+    ∷ []
+
+abbrev planeAnswers : List Plane
+planeAnswers =
+    record { point = pos 0 ∷ []; left = minusZero ∷ [] }
+    ∷ record { point = pos (2 ^ 63 - 1) ∷ pos (2 ^ 63 - 1) ∷ []; left = fin true 1 (pos 63) ∷ largest ∷ [] }
+    ∷ []
+
 pub record Cases : Type 0 where
   pub nearest-cases : nearestCases ≡ nearestAnswers
   pub list-cases : listCases ≡ listAnswers
   pub rounding-cases : roundCases ≡ roundAnswers
+  pub plane-cases : planeCases ≡ planeAnswers
   pub four-at-one : map (partial tableH targetH) fourVectors ≡ one ∷ one ∷ one ∷ one ∷ []
   pub none-admitted : map (admitted tableH targetH one) fourVectors ≡ false ∷ false ∷ false ∷ false ∷ []
   pub all-admitted : map (admitted tableH targetH aboveOne) fourVectors ≡ true ∷ true ∷ true ∷ true ∷ []
@@ -581,14 +603,16 @@ pub record Cases : Type 0 where
   pub setting-checks : settingChecks ≡ settingVerdicts
   pub printed : jobOutput jobG ≡ printedG
   pub printed-open : jobOutput jobB ≡ printedB
+  pub printed-other : jobOutput jobI ≡ printedI
   pub printed-empty : jobOutput jobA ≡ printedA
 
 pub cases : Cases
-unfolding nearest list listRatio ratioCall settingsCheck nearestSeeded nearestMl roundAway changeReference changeOutput fedAll firstRefusal tableChecks partial admitted jobOutput text toBits ofBits bytesOf joined
+unfolding nearest nearestPlane list listRatio ratioCall settingsCheck nearestSeeded nearestMl roundAway changeReference changeOutput fedAll firstRefusal tableChecks partial admitted jobOutput text toBits ofBits bytesOf joined
 cases = record {
   nearest-cases = refl;
   list-cases = refl;
   rounding-cases = refl;
+  plane-cases = refl;
   four-at-one = refl;
   none-admitted = refl;
   all-admitted = refl;
@@ -604,5 +628,6 @@ cases = record {
   setting-checks = refl;
   printed = refl;
   printed-open = refl;
+  printed-other = refl;
   printed-empty = refl;
 }

@@ -14,7 +14,7 @@ use Rattle.definitions.specs.Shapes.{Shaped, ShapedOut, WalkShaped}
 use Rattle.definitions.specs.Distance.{distance}
 use Rattle.definitions.specs.Seeds.{rounded, nearestPlane, widened}
 use Rattle.definitions.specs.Refusals.{Refusal, lengthMismatch, invalidRadius, budgetRange, candidateLength, candidateDistance, candidateOutside, widenedRadius, listSize}
-use Rattle.definitions.specs.Checks.{Verdict, pass, refuse, firstRefusal, refuseIf, tableSizeCheck, muNonFiniteCheck, muRangeCheck, weightRangeCheck, tableChecks, lengthCheck, planeLengthCheck, targetCheck, finiteCheck, notFinite, radiusCheck, handedOn, budgetCheck, candidateLengthCheck, candidateDistanceCheck, candidateOutsideCheck, widenedRadiusCheck, listSizeCheck}
+use Rattle.definitions.specs.Checks.{Verdict, pass, refuse, firstRefusal, refuseIf, tableSizeCheck, muNonFiniteCheck, muRangeCheck, weightRangeCheck, tableChecks, lengthCheck, planeLengthCheck, targetCheck, notFinite, radiusCheck, handedOn, budgetCheck, candidateLengthCheck, candidateDistanceCheck, candidateOutsideCheck, widenedRadiusCheck}
 use Rattle.definitions.specs.Calls.{searchChecks, checksOfNearest, nearestChecks, checksOfSeeded, seededChecks, mlRadius, checksOfMl, mlChecks, checksOfList, listChecks, checksOfRound, round, roundOutput, checksOfPlane, planeOutput, planeCoefficients}
 use Rattle.definitions.proofs.Verdicts.{refuse≢pass}
 use Rattle.definitions.proofs.Tables.{CheckedTable, table-passed, size-passed, neither}
@@ -27,7 +27,7 @@ same-if false e q = absurd (refuse≢pass q)
 pub length-passed : (expected found : ℕ) → lengthCheck expected found ≡ pass → expected ≡ found
 length-passed expected found q = eqb-true expected found (same-if (eqb expected found) (lengthMismatch expected found) q)
 
-plane-length-passed : (n a b : ℕ) → planeLengthCheck n a b ≡ pass → (n ≡ a) × (n ≡ b)
+pub plane-length-passed : (n a b : ℕ) → planeLengthCheck n a b ≡ pass → (n ≡ a) × (n ≡ b)
 plane-length-passed n a b q = both (eqb n a) (eqb n b) refl refl (same-if (eqb n a && eqb n b) (lengthMismatch n a) q)
   where
     both : (x y : Bool) → eqb n a ≡ x → eqb n b ≡ y → (x && y) ≡ true → (n ≡ a) × (n ≡ b)

@@ -1,7 +1,7 @@
 -- What a table and a target that pass are like. Assumes nothing.
-use mathlib.Core.Path.{_≡_, refl, sym, _∙_, subst}
+use mathlib.Core.Path.{_≡_, refl, subst}
 use mathlib.Core.Bool.{Bool, true, false, not, _||_, true≢false}
-use mathlib.Core.List.{List, [], _∷_, _++_, List·Memᴰ, Memᴰ·append-left, Memᴰ·append-right}
+use mathlib.Core.List.{List, _++_, List·Memᴰ, Memᴰ·append-left, Memᴰ·append-right}
 use mathlib.Core.Logic.{⊎-elim}
 use Prim.Native.Nat.{ℕ, zero, suc, _+_, _*_, _≤_, _<_}
 use native.Mathlib.Nat.{mul-le-mul-right, add-mul, eq-or-lt-of-le}
@@ -14,8 +14,8 @@ use lib.Ieee.Scale.{finite}
 use Rattle.rounding.proofs.Interface.{Weight, weight-of, held}
 use Rattle.definitions.specs.Table.{Table, dimension, weight, entry, coordinate, plusZero}
 use Rattle.definitions.specs.Refusals.{Refusal, tableSize, muNonFinite, muRange, weightRange, nonFinite}
-use Rattle.definitions.specs.Checks.{pass, firstRefusal, refuseIf, countFrom, readIndices, notFinite, beyondLimit, weightFault, targetFault, tableSizeCheck, muNonFiniteCheck, muRangeCheck, weightRangeCheck, tableChecks, targetCheck}
-use Rattle.definitions.proofs.Verdicts.{refuse≢pass, first-alone, append-passes, counts, passes-clean, passed}
+use Rattle.definitions.specs.Checks.{pass, refuseIf, countFrom, readIndices, notFinite, beyondLimit, weightFault, targetFault, tableSizeCheck, muNonFiniteCheck, muRangeCheck, weightRangeCheck, targetCheck}
+use Rattle.definitions.proofs.Verdicts.{refuse≢pass, counts, passes-clean, passed}
 
 -- row j lies within n rows of n
 pub row-within : (n j : ℕ) → j < n → j * n + j ≤ n * n

@@ -43,12 +43,14 @@ unfoldable pub nearestWithin : Table → List Float → Float → ℕ → Answer
 unfolding endOfNearest nearestWalk
 nearestWithin t target R budget = endOfNearest R (nearestWalk t target R budget)
 
--- 2 to 5, then 6 (target, then output) and 7, with the largest n given
+-- 6 (target, then output) and 7
+abbrev pub targetChecks : ℕ → List Float → List ℤ → List Verdict
+targetChecks n target out = lengthCheck n (length target) ∷ lengthCheck n (length out) ∷ targetCheck target ∷ []
+
+-- 2 to 5, then these, with the largest n given
 unfoldable pub searchChecks : ℕ → Table → List Float → List ℤ → List Verdict
 unfolding tableChecks targetCheck
-searchChecks largest t target out =
-    tableChecks largest t
-    ++ lengthCheck (dimension t) (length target) ∷ lengthCheck (dimension t) (length out) ∷ targetCheck target ∷ []
+searchChecks largest t target out = tableChecks largest t ++ targetChecks (dimension t) target out
 
 -- and 8, 9
 abbrev pub checksOfNearest : ℕ → Table → List Float → List ℤ → Float → ℕ → List Verdict
@@ -118,6 +120,21 @@ nearestMl t target out budget = after (mlChecks largestDimension t target out bu
 unfoldable pub nearestOutput : Answer NearestPoint → List ℤ → List ℤ
 nearestOutput (found a) out = a .point
 nearestOutput (refused e) out = out
+
+-- ---- distance
+
+-- 2 to 7 with the point in the output's place, then 11
+abbrev pub checksOfDistance : ℕ → Table → List Float → List ℤ → List Verdict
+checksOfDistance largest t target point = searchChecks largest t target point ++ candidateDistanceCheck (distance t target point) ∷ []
+
+unfoldable pub distanceChecks : ℕ → Table → List Float → List ℤ → Verdict
+unfolding firstRefusal searchChecks partial
+distanceChecks largest t target point = firstRefusal (checksOfDistance largest t target point)
+
+-- `distance`: the computed distance of a point that the caller gives
+unfoldable pub pointDistance : Table → List Float → List ℤ → Answer Float
+unfolding after distanceChecks partial
+pointDistance t target point = after (distanceChecks largestDimension t target point) (found (distance t target point))
 
 -- ---- list
 

@@ -7,7 +7,7 @@ use lib.Signed.{ltZ, leZ}
 use lib.Ieee.{Float, lt, eq}
 use Rattle.definitions.specs.Table.{Table, dimension, plusZero}
 use Rattle.definitions.specs.Distance.{center}
-use Rattle.definitions.specs.Walk.{Walked, ended, Leaf, walk}
+use Rattle.definitions.specs.Walk.{Walked, ended, Leaf, still, walk}
 
 -- the best so far
 pub data Best : Type 0 where
@@ -35,4 +35,4 @@ consider zs d k standing nodes = cond (replaces zs d k standing) (ended (best zs
 -- the walk from its start: above level n - 1, with the partial sum plus zero, without nodes and without a best
 unfoldable pub nearestWalk : Table → List Float → Float → ℕ → Walked Best
 unfolding walk consider center
-nearestWalk t target R budget = walk consider (center t target) t budget (dimension t) [] plusZero (ended no-best R 0)
+nearestWalk t target R budget = walk consider (still (center t target)) t budget (dimension t) [] plusZero (ended no-best R 0)

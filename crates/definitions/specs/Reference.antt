@@ -14,7 +14,7 @@ use Rattle.definitions.specs.Checks.{Verdict, pass, refuse, firstRefusal
 abbrev pub cycles : List ℤ → ℕ → ℤ
 cycles a i = getD a i (pos 0)
 
--- what coordinate i becomes: coordinate r becomes -a(r), each other a(i) becomes a(i) - a(r)
+-- what coordinate i becomes: -a(r) where i is r, and a(i) - a(r) elsewhere
 abbrev pub changed : List ℤ → ℕ → ℕ → ℤ
 changed a r i = cond (eqb i r) (negℤ (cycles a r)) (cycles a i -ℤ cycles a r)
 

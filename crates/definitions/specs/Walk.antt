@@ -22,8 +22,16 @@ Leaf K = List ℤ → Float → K → Float → ℕ → Walked K
 abbrev pub Descent : Type 0 → Type 0
 Descent K = List ℤ → Float → Walked K → Walked K
 
--- `centerOf` is the centre of a level from the coordinates above it
-module _ {K : Type 0} (leaf : Leaf K) (centerOf : ℕ → List ℤ → Float) (t : Table) (budget : ℕ) where
+-- where a walk has its centres from: that of a level, by the coordinates above it and what is kept; and what is kept once a level has taken an integer
+pub record Centers (K : Type 0) : Type 0 where
+  pub at : ℕ → List ℤ → K → Float
+  pub moved : ℕ → ℤ → K → K
+
+-- centres that the coordinates above them give alone
+abbrev pub still : {K : Type 0} → (ℕ → List ℤ → Float) → Centers K
+still centerOf = record { at = λ level zs k. centerOf level zs; moved = λ level z k. k }
+
+module _ {K : Type 0} (leaf : Leaf K) (centers : Centers K) (t : Table) (budget : ℕ) where
   -- below a child, if its partial sum is within the standing radius: the test is given
   unfoldable pub descendIf : Bool → Descent K → List ℤ → Float → Walked K → Walked K
   descendIf true down zs sum w = down zs sum w
@@ -44,7 +52,7 @@ module _ {K : Type 0} (leaf : Leaf K) (centerOf : ℕ → List ℤ → Float) (t
   tryChildren down level zs p c (suc fuel) (none g) (ended k standing nodes) = ended k standing nodes
   tryChildren down level zs p c (suc fuel) (child z g) (ended k standing nodes) =
       tryChildren down level zs p c fuel (next g)
-      (visit (leb budget nodes) down (z ∷ zs) (add binary64 p (term (weight t level) c z)) k standing nodes)
+      (visit (leb budget nodes) down (z ∷ zs) (add binary64 p (term (weight t level) c z)) (centers .moved level z k) standing nodes)
 
   unfoldable pub tryLevel : Descent K → ℕ → List ℤ → Float → Float → Start → Walked K → Walked K
   unfolding tryChildren next
@@ -56,7 +64,7 @@ module _ {K : Type 0} (leaf : Leaf K) (centerOf : ℕ → List ℤ → Float) (t
   unfolding tryLevel start sub
   enter down level zs p (exhausted nodes standing) = exhausted nodes standing
   enter down level zs p (ended k standing nodes) =
-      let c = centerOf level zs in
+      let c = centers .at level zs k in
       tryLevel down level zs p c (start c (sub binary64 standing p) (weight t level)) (ended k standing nodes)
 
   unfoldable pub atLeaf : Descent K

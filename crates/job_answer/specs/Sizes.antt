@@ -16,7 +16,7 @@ listedSize = hexadecimalSize + pointSize largestDimension + 1
 abbrev pub listSize : ℕ → ℕ
 listSize points = 5 + decimalSize + 1 + decimalSize + 1 + listedSize * points
 
--- "ratio holds" or "ratio fails", the line's end
+-- "ratio holds" or "ratio fails", which are the longest, the line's end
 abbrev pub ratioSize : ℕ
 ratioSize = 12
 

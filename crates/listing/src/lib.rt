@@ -1,7 +1,6 @@
 // The list of the integer vectors within a radius.
-ghost use mathlib.Core.Path.{_≡_};
 ghost use lib.ListN.{length};
-ghost use Rattle.definitions.specs.Table.{table, largestDimension, largestList};
+ghost use Rattle.definitions.specs.Table.{table, largestList};
 ghost use Rattle.definitions.specs.Lent.{atEntry, atExit, tableAt};
 ghost use Rattle.definitions.specs.Listing.{listWalk};
 ghost use Rattle.definitions.specs.Calls as C;

@@ -75,7 +75,7 @@ fn change_all(point: &mut [i64], r: usize)
     }
 }
 
-// Changes the reference satellite to that of coordinate r: coordinate r becomes -a(r), each other a(i) becomes a(i) - a(r).
+// Changes the reference satellite to that of coordinate r, which turns into -a(r), and every other a(i) into a(i) - a(r).
 // The point may have any length.
 //
 // Refused: 19, r not below the length; 20, a coordinate that becomes no i64 (first index). A refusal leaves the point as

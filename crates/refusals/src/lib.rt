@@ -16,7 +16,7 @@ pub enum Refusal {
     WeightRange(usize),
     // 6: a slice is not as long as expected (expected, found).
     LengthMismatch(usize, usize),
-    // 7: a target is not finite or above 2^52 in magnitude (its index).
+    // 7: a target is not finite or above 2^52 in magnitude; a coefficient is not finite (its index).
     NonFinite(usize),
     // 8: the radius is negative or not finite (radius).
     InvalidRadius(f64),

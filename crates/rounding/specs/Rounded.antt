@@ -3,7 +3,7 @@ use mathlib.Core.Path.{_≡_}
 use Prim.Native.Nat.{ℕ, _<_, _^_}
 use mathlib.Core.Bool.{false}
 use lib.Dec.{T}
-use lib.IntN.{ℤ, pos, negℤ}
+use lib.IntN.{pos, negℤ}
 use lib.Ieee.{Float, fin, lt, neg}
 use Rattle.rounding.specs.Integers.{roundAway, toDouble}
 use Rattle.rounding.specs.declared.RoundedAway.{RoundedAway}

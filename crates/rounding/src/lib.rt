@@ -3,10 +3,8 @@
 ghost use mathlib.Core.Path.{_≡_};
 ghost use mathlib.Core.Bool.{false};
 ghost use Prim.Native.Nat.{_<_, _^_};
-ghost use lib.Dec.{T};
-ghost use lib.IntN.{pos, negℤ};
 ghost use lib.Signed.{mag};
-ghost use lib.Ieee.{binary64, ofBits, toBits, fin, lt, neg};
+ghost use lib.Ieee.{binary64, ofBits, toBits};
 ghost use lib.Ieee.Scale.{finite};
 ghost use Rattle.rounding.specs.Integers.{roundAway, toDouble};
 ghost use Rattle.rounding.specs.Doubles as D;

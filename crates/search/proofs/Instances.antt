@@ -15,9 +15,10 @@ use Rattle.rounding.proofs.Interface.{zero-is}
 use Rattle.definitions.specs.Table.{Table, dimension, plusZero, largestDimension, largestList, largestBudget}
 use Rattle.definitions.specs.Shapes.{Shaped}
 use Rattle.definitions.specs.Distance.{center}
-use Rattle.definitions.specs.Walk.{Walked, ended, walk}
+use Rattle.definitions.specs.Walk.{Walked, ended, still, walk}
 use Rattle.definitions.specs.Nearest.{Best, best, no-best, replaces, consider, nearestWalk}
 use Rattle.definitions.specs.Listing.{ListPoint, collect, listWalk}
+use Rattle.definitions.proofs.Leaves.{consider-is, nearestWalk-is, collect-is, listWalk-is}
 use Rattle.lists.specs.Places.{places}
 use Rattle.lists.proofs.Places.{places-none}
 use Rattle.distance.proofs.Totals.{residuals-start}
@@ -28,19 +29,18 @@ use Rattle.search.specs.View.{Search, carried, newSearch, seen}
 use Rattle.search.specs.Call.{state, Call, walkOf, Ready}
 use Rattle.search.proofs.NearestLeaf.{considers-is}
 use Rattle.search.proofs.ListLeaf.{stores-is, rows-zero}
-use Rattle.search.proofs.Map.{mapped, walk-map}
+use Rattle.search.proofs.Map.{mapped, SameCenters, walk-map}
 
 -- what is kept before the first leaf
 abbrev pub nothing : Kept
 nothing = record { best = no-best; count = 0; stored = [] }
 
+alike : {K L : Type 0} (f : K → L) (centerOf : ℕ → List ℤ → Float) → SameCenters f (still centerOf) (still centerOf)
+alike f centerOf = record { same-at = λ level zs k. refl; same-moved = λ level z k. refl }
+
 -- ---- nearest
 abbrev pub bestOnly : Best → Kept
 bestOnly k = record { best = k; count = 0; stored = [] }
-
-consider-is : (zs : List ℤ) (d : Float) (k : Best) (R : Float) (m : ℕ) → consider zs d k R m ≡ cond (replaces zs d k R) (ended (best zs) d m) (ended k R m)
-unfolding consider
-consider-is zs d k R m = refl
 
 considers : (room : ℕ) (zs : List ℤ) (d : Float) (k : Best) (R : Float) (m : ℕ) → leaf false room zs d (bestOnly k) R m ≡ mapped bestOnly (consider zs d k R m)
 considers room zs d k R m = considers-is room zs d (bestOnly k) R m ∙ by (replaces zs d k R) ∙ ap (mapped bestOnly) (sym (consider-is zs d k R m))
@@ -49,21 +49,13 @@ considers room zs d k R m = considers-is room zs d (bestOnly k) R m ∙ by (repl
     by true = refl
     by false = refl
 
-nearest-is : (t : Table) (target : List Float) (R : Float) (b : ℕ) → nearestWalk t target R b ≡ walk consider (center t target) t b (dimension t) [] plusZero (ended no-best R 0)
-unfolding nearestWalk
-nearest-is t target R b = refl
-
-pub nearest-instance : (t : Table) (target : List Float) (R : Float) (b room : ℕ) → walk (leaf false room) (center t target) t b (dimension t) [] plusZero (ended nothing R 0) ≡ mapped bestOnly (nearestWalk t target R b)
-nearest-instance t target R b room = walk-map bestOnly consider (leaf false room) (center t target) t b (considers room) (dimension t) [] plusZero (ended no-best R 0) ∙ ap (mapped bestOnly) (sym (nearest-is t target R b))
+pub nearest-instance : (t : Table) (target : List Float) (R : Float) (b room : ℕ) → walk (leaf false room) (still (center t target)) t b (dimension t) [] plusZero (ended nothing R 0) ≡ mapped bestOnly (nearestWalk t target R b)
+nearest-instance t target R b room = walk-map bestOnly consider (leaf false room) (still (center t target)) (still (center t target)) (alike bestOnly (center t target)) t b (considers room) (dimension t) [] plusZero (ended no-best R 0) ∙ ap (mapped bestOnly) (sym (nearestWalk-is t target R b))
 
 -- ---- list
 -- of the points found, the last first, those that had one of so many places
 abbrev pub listOnly : ℕ → List ListPoint → Kept
 listOnly room ps = record { best = no-best; count = length ps; stored = take room (reverse ps) }
-
-collect-is : (zs : List ℤ) (d : Float) (ps : List ListPoint) (R : Float) (m : ℕ) → collect zs d ps R m ≡ ended (record { distance = d; point = zs } ∷ ps) R m
-unfolding collect
-collect-is zs d ps R m = refl
 
 -- one point more among the first so many
 taken : (room : ℕ) (r : ListPoint) (xs : List ListPoint) → cond (ltb (length xs) room) (take room xs ++ r ∷ []) (take room xs) ≡ take room (xs ++ r ∷ [])
@@ -86,15 +78,11 @@ collects room zs d ps R m =
     storing : List ListPoint → Walked Kept
     storing l = ended (record { best = no-best; count = suc (length ps); stored = l }) R m
 
-list-is : (t : Table) (target : List Float) (R : Float) (b : ℕ) → listWalk t target R b ≡ walk collect (center t target) t b (dimension t) [] plusZero (ended [] R 0)
-unfolding listWalk
-list-is t target R b = refl
-
-pub list-instance : (t : Table) (target : List Float) (R : Float) (b room : ℕ) → walk (leaf true room) (center t target) t b (dimension t) [] plusZero (ended nothing R 0) ≡ mapped (listOnly room) (listWalk t target R b)
+pub list-instance : (t : Table) (target : List Float) (R : Float) (b room : ℕ) → walk (leaf true room) (still (center t target)) t b (dimension t) [] plusZero (ended nothing R 0) ≡ mapped (listOnly room) (listWalk t target R b)
 list-instance t target R b room =
-    ap (λ (l : List ListPoint). walk (leaf true room) (center t target) t b (dimension t) [] plusZero (ended (record { best = no-best; count = 0; stored = l }) R 0)) (sym (take-nil room))
-    ∙ walk-map (listOnly room) collect (leaf true room) (center t target) t b (collects room) (dimension t) [] plusZero (ended [] R 0)
-    ∙ ap (mapped (listOnly room)) (sym (list-is t target R b))
+    ap (λ (l : List ListPoint). walk (leaf true room) (still (center t target)) t b (dimension t) [] plusZero (ended (record { best = no-best; count = 0; stored = l }) R 0)) (sym (take-nil room))
+    ∙ walk-map (listOnly room) collect (leaf true room) (still (center t target)) (still (center t target)) (alike (listOnly room) (center t target)) t b (collects room) (dimension t) [] plusZero (ended [] R 0)
+    ∙ ap (mapped (listOnly room)) (sym (listWalk-is t target R b))
 
 -- ---- a call's walk, from a struct that `RecursiveSearch::new` gives; the residuals have no part in what it comes to
 abbrev pub startCall : Bool → Table → List Float → ℕ → RecursiveSearch → List Float → List Float → List ℤ → Call
@@ -120,7 +108,7 @@ module _ (listing : Bool) (t : Table) (target : List Float) (b : ℕ) (R : Float
   search-is : carried listing s 0 false ≡ emptySearch R
   search-is = ap (λ (x : RecursiveSearch). carried listing x 0 false) new ∙ carried-is listing R
 
-  pub walk-from-start : walkOf (startCall listing t target b s [] distances points) ≡ walk (leaf listing (length distances)) (center t target) t b (dimension t) [] plusZero (ended nothing R 0)
+  pub walk-from-start : walkOf (startCall listing t target b s [] distances points) ≡ walk (leaf listing (length distances)) (still (center t target)) t b (dimension t) [] plusZero (ended nothing R 0)
   walk-from-start =
       ap (λ (x : Search). begins x (ofBits binary64 0)) search-is
       ∙ ap (begins (emptySearch R)) zero-is
@@ -129,10 +117,10 @@ module _ (listing : Bool) (t : Table) (target : List Float) (b : ℕ) (R : Float
       ∙ ap (whole []) (rows-zero (dimension t) distances points)
     where
       begins : Search → Float → Walked Kept
-      begins x p = walk (leaf listing (length distances)) (center t target) t b (dimension t) (places (dimension t) (dimension t) (x .point)) p (seen (dimension t) x distances points)
+      begins x p = walk (leaf listing (length distances)) (still (center t target)) t b (dimension t) (places (dimension t) (dimension t) (x .point)) p (seen (dimension t) x distances points)
 
       whole : List ℤ → List ListPoint → Walked Kept
-      whole zs l = walk (leaf listing (length distances)) (center t target) t b (dimension t) zs plusZero (ended (record { best = no-best; count = 0; stored = l }) R 0)
+      whole zs l = walk (leaf listing (length distances)) (still (center t target)) t b (dimension t) zs plusZero (ended (record { best = no-best; count = 0; stored = l }) R 0)
 
   -- what a call has to show for it
   pub ready-at-start : (rest : List Float) → b ≤ largestBudget → length rest ≡ largestDimension → length distances ≤ largestList → length points ≡ length distances * dimension t → Ready (startCall listing t target b s rest distances points)

@@ -12,7 +12,7 @@ use Rattle.rounding.specs.Integers.{toDouble, roundAway}
 use Rattle.definitions.specs.Table.{weight, coordinate, largestDimension}
 use Rattle.definitions.specs.Distance.{center, term}
 use Rattle.definitions.specs.Zigzag.{Zigzag, Next, child, Start, open-level, start, next}
-use Rattle.definitions.specs.Walk.{Walked, ended, exhausted, tryChildren, walk}
+use Rattle.definitions.specs.Walk.{Walked, ended, exhausted, still, tryChildren, walk}
 use Rattle.definitions.proofs.Turns.{children-none, children-exhausted}
 use Rattle.definitions.proofs.Zigzags.{Follows, startAt, start-opens, next-follows}
 use Rattle.lists.specs.Places.{places}
@@ -33,7 +33,7 @@ use Rattle.search.proofs.States.{withChild, withoutBudget, view, keeps,
 
 -- what a level's children come to from the next on, with fuel for so many
 abbrev left : Call → ℕ → ℕ → Next → Walked Kept → Walked Kept
-left q l fuel y w = tryChildren (leafOf q) (center (q .table) (q .target)) (q .table) (q .budget) (down q l) l (prefix q) (q .partial) (centerAt q l) fuel y w
+left q l fuel y w = tryChildren (leafOf q) (still (center (q .table) (q .target))) (q .table) (q .budget) (down q l) l (prefix q) (q .partial) (centerAt q l) fuel y w
 
 -- at level l: x is what the loop has come to, and g the generator before its next child
 pub record LoopReady (q : Call) (l : ℕ) (x : State) (g : Children) : Type 0 where
@@ -80,7 +80,7 @@ module _ {q : Call} (v : Level q) where
   pub level-closed : Closed ≡ levelOf (startOf center-sum) → view (size q) (q .from) ≡ walkOf q
   level-closed e =
       view-ended (size q) (q .from) (v .ready .not-exhausted)
-      ∙ sym (walk-closed (leafOf q) (center (q .table) (q .target)) (q .table) (q .budget) (v .level) (prefix q) (q .partial) (keeps (size q) (q .from)) (q .from .search .radius) (q .from .search .nodes) (start-of-sum ∙ closed-of _ e))
+      ∙ sym (walk-closed (leafOf q) (still (center (q .table) (q .target))) (q .table) (q .budget) (v .level) (prefix q) (q .partial) (keeps (size q) (q .from)) (q .from .search .radius) (q .from .search .nodes) (start-of-sum ∙ closed-of _ e))
       ∙ ap (λ (k : ℕ). down q k (prefix q) (q .partial) (ended-view (size q) (q .from))) suc-level
       ∙ walk-ended q (v .ready)
 
@@ -105,7 +105,7 @@ module _ {q : Call} (v : Level q) where
           fuel = suc (q .budget);
           enough = omega arith;
           same =
-              sym (walk-open (leafOf q) (center (q .table) (q .target)) (q .table) (q .budget) (v .level) (prefix q) (q .partial) (keeps (size q) (q .from)) (q .from .search .radius) (q .from .search .nodes) (zigzag g) start-is)
+              sym (walk-open (leafOf q) (still (center (q .table) (q .target))) (q .table) (q .budget) (v .level) (prefix q) (q .partial) (keeps (size q) (q .from)) (q .from .search .radius) (q .from .search .nodes) (zigzag g) start-is)
               ∙ ap (λ (k : ℕ). down q k (prefix q) (q .partial) (ended-view (size q) (q .from))) suc-level
               ∙ walk-ended q (v .ready);
           not-exhausted = v .ready .not-exhausted;
@@ -128,7 +128,7 @@ module _ {q : Call} (u : Turn q) where
   pub children-end : End ≡ childOf (next (zigzag (u .generator))) → view (size q) (u .now) ≡ walkOf q
   children-end e =
       view-ended (size q) (u .now) (u .loop .not-exhausted)
-      ∙ sym (children-none (leafOf q) (center (q .table) (q .target)) (q .table) (q .budget) (down q (u .at .level)) (u .at .level) (prefix q) (q .partial) (centerAt q (u .at .level)) (u .loop .fuel) _ (keeps (size q) (u .now)) (u .now .search .radius) (u .now .search .nodes))
+      ∙ sym (children-none (leafOf q) (still (center (q .table) (q .target))) (q .table) (q .budget) (down q (u .at .level)) (u .at .level) (prefix q) (q .partial) (centerAt q (u .at .level)) (u .loop .fuel) _ (keeps (size q) (u .now)) (u .now .search .radius) (u .now .search .nodes))
       ∙ ap (λ (y : Next). left q (u .at .level) (u .loop .fuel) y (ended-view (size q) (u .now))) (sym (end-of _ e))
       ∙ u .loop .same
 
@@ -207,7 +207,7 @@ module _ {q : Call} (d : Tried q) where
 
   -- the budget is turn-exhausted
   pub budget-spent : q .budget ≤ x .search .nodes → exhausted (x .search .nodes) (x .search .radius) ≡ walkOf q
-  budget-spent k = sym (turn-exhausted (leafOf q) (center (q .table) (q .target)) (q .table) (q .budget) (down q l) l (prefix q) (q .partial) c z (zigzag (d .after)) (keeps (size q) x) (x .search .radius) (x .search .nodes) fuel some k) ∙ here
+  budget-spent k = sym (turn-exhausted (leafOf q) (still (center (q .table) (q .target))) (q .table) (q .budget) (down q l) l (prefix q) (q .partial) c z (zigzag (d .after)) (keeps (size q) x) (x .search .radius) (x .search .nodes) fuel some k) ∙ here
 
   sum-at : {a : Bool} → le (sum d) (x .search .radius) ≡ a → le (add binary64 (q .partial) (term (weight (q .table) l) c z)) (x .search .radius) ≡ a
   sum-at e = ap (λ (v : Float). le (add binary64 (q .partial) v) (x .search .radius)) (sym term-at) ∙ e
@@ -261,7 +261,7 @@ module _ {q : Call} (e : Counted q) where
     fuel = turn .loop .fuel - 1;
     enough = omega (arith, turn .loop .enough, e .below-budget);
     same =
-        sym (turn-pruned (leafOf q) (center (q .table) (q .target)) (q .table) (q .budget) (down q (turn .at .level)) (turn .at .level) (prefix q) (q .partial) (centerAt q (turn .at .level)) (e .tried .trial .z) (zigzag (e .tried .after)) (keeps (size q) (turn .now)) (turn .now .search .radius) (turn .now .search .nodes) (e .below-budget) (turn .loop .fuel) (some (e .tried)) (sum-at (e .tried) h))
+        sym (turn-pruned (leafOf q) (still (center (q .table) (q .target))) (q .table) (q .budget) (down q (turn .at .level)) (turn .at .level) (prefix q) (q .partial) (centerAt q (turn .at .level)) (e .tried .trial .z) (zigzag (e .tried .after)) (keeps (size q) (turn .now)) (turn .now .search .radius) (turn .now .search .nodes) (e .below-budget) (turn .loop .fuel) (some (e .tried)) (sum-at (e .tried) h))
         ∙ here (e .tried);
     not-exhausted = turn .loop .not-exhausted;
     point-length = length-set (turn .now .search .point) (turn .at .level) (e .stored) ∙ turn .loop .point-length;
@@ -322,7 +322,7 @@ module _ {q : Call} (m : Below q) where
   below : view (size q) w ≡ down q (turn e .at .level) (e .tried .trial .z ∷ prefix q) (add binary64 (q .partial) (term (weight (q .table) (turn e .at .level)) (centerAt q (turn e .at .level)) (e .tried .trial .z))) (ended (keeps (size q) (turn e .now)) (turn e .now .search .radius) (turn e .now .search .nodes + 1))
   below =
       m .returned .seen-as
-      ∙ ap (λ (k : ℕ). walk (leaf (q .listing) k) (center (q .table) (q .target)) (q .table) (q .budget) (turn e .at .level) (places (size q) (turn e .at .level) (searchBelow e .point)) (sum (e .tried)) viewBelow) (turn e .loop .preserved .distances-length)
+      ∙ ap (λ (k : ℕ). walk (leaf (q .listing) k) (still (center (q .table) (q .target))) (q .table) (q .budget) (turn e .at .level) (places (size q) (turn e .at .level) (searchBelow e .point)) (sum (e .tried)) viewBelow) (turn e .loop .preserved .distances-length)
       ∙ ap (λ (zs : List ℤ). down q (turn e .at .level) zs (sum (e .tried)) viewBelow) (point-set e ∙ ap (λ (a : ℤ). a ∷ prefix q) (e .stored-is))
       ∙ ap (λ (v : Float). down q (turn e .at .level) (e .tried .trial .z ∷ prefix q) (add binary64 (q .partial) v) viewBelow) (term-at (e .tried))
       ∙ ap (down q (turn e .at .level) (e .tried .trial .z ∷ prefix q) (add binary64 (q .partial) (term (weight (q .table) (turn e .at .level)) (centerAt q (turn e .at .level)) (e .tried .trial .z)))) (view-ended (size q) (state (searchBelow e) (turn e .now .rest) (turn e .now .distances) (turn e .now .points)) (turn e .loop .not-exhausted))
@@ -330,13 +330,13 @@ module _ {q : Call} (m : Below q) where
   children-left : rest (e .tried) (turn e .loop .fuel - 1) (view (size q) w) ≡ walkOf q
   children-left =
       ap (rest (e .tried) (turn e .loop .fuel - 1)) below
-      ∙ sym (turn-descends (leafOf q) (center (q .table) (q .target)) (q .table) (q .budget) (down q (turn e .at .level)) (turn e .at .level) (prefix q) (q .partial) (centerAt q (turn e .at .level)) (e .tried .trial .z) (zigzag (e .tried .after)) (keeps (size q) (turn e .now)) (turn e .now .search .radius) (turn e .now .search .nodes) (e .below-budget) (turn e .loop .fuel) (some (e .tried)) (sum-at (e .tried) (m .passes)))
+      ∙ sym (turn-descends (leafOf q) (still (center (q .table) (q .target))) (q .table) (q .budget) (down q (turn e .at .level)) (turn e .at .level) (prefix q) (q .partial) (centerAt q (turn e .at .level)) (e .tried .trial .z) (zigzag (e .tried .after)) (keeps (size q) (turn e .now)) (turn e .now .search .radius) (turn e .now .search .nodes) (e .below-budget) (turn e .loop .fuel) (some (e .tried)) (sum-at (e .tried) (m .passes)))
       ∙ here (e .tried)
 
   pub exhausted-below : w .search .exhausted ≡ true → view (size q) w ≡ walkOf q
   exhausted-below a =
       view-exhausted (size q) w a
-      ∙ sym (children-exhausted (leafOf q) (center (q .table) (q .target)) (q .table) (q .budget) (down q (turn e .at .level)) (turn e .at .level) (prefix q) (q .partial) (centerAt q (turn e .at .level)) (turn e .loop .fuel - 1) (next (zigzag (e .tried .after))) (w .search .nodes) (w .search .radius))
+      ∙ sym (children-exhausted (leafOf q) (still (center (q .table) (q .target))) (q .table) (q .budget) (down q (turn e .at .level)) (turn e .at .level) (prefix q) (q .partial) (centerAt q (turn e .at .level)) (turn e .loop .fuel - 1) (next (zigzag (e .tried .after))) (w .search .nodes) (w .search .radius))
       ∙ ap (rest (e .tried) (turn e .loop .fuel - 1)) (sym (view-exhausted (size q) w a))
       ∙ children-left
 

@@ -9,7 +9,7 @@ use lib.ListN.{length, set, take}
 use lib.Ieee.{Float}
 use Rattle.definitions.specs.Table.{Table, dimension}
 use Rattle.definitions.specs.Distance.{center}
-use Rattle.definitions.specs.Walk.{Walked, ended, exhausted, Leaf, Descent, walk}
+use Rattle.definitions.specs.Walk.{Walked, ended, exhausted, Leaf, Descent, still, walk}
 use Rattle.definitions.proofs.Turns.{walk-leaf, leaf-ended}
 use Rattle.lists.specs.Places.{places}
 use Rattle.lists.proofs.Tuples.{fourth, fifth, sixth, seventh, eighth}
@@ -59,7 +59,7 @@ module _ (q : Call) where
 
   -- the walk with l levels left
   abbrev pub down : ℕ → Descent Kept
-  down l = walk leafOf (center (q .table) (q .target)) (q .table) (q .budget) l
+  down l = walk leafOf (still (center (q .table) (q .target))) (q .table) (q .budget) l
 
   module _ (ready : Ready q) where
     pub walk-ended : down (q .depth) (prefix q) (q .partial) (ended-view (size q) (q .from)) ≡ walkOf q
@@ -83,7 +83,7 @@ module _ (q : Call) where
     at-foot z s distances points e point nodes listed dl pl = record {
       seen-as =
           e
-          ∙ sym (walk-leaf leafOf (center (q .table) (q .target)) (q .table) (q .budget) zs (q .partial) (ended-view (size q) (q .from)) ∙ leaf-ended leafOf (center (q .table) (q .target)) (q .table) (q .budget) zs (q .partial) (keeps (size q) (q .from)) (q .from .search .radius) (q .from .search .nodes))
+          ∙ sym (walk-leaf leafOf (still (center (q .table) (q .target))) (q .table) (q .budget) zs (q .partial) (ended-view (size q) (q .from)) ∙ leaf-ended leafOf (still (center (q .table) (q .target))) (q .table) (q .budget) zs (q .partial) (keeps (size q) (q .from)) (q .from .search .radius) (q .from .search .nodes))
           ∙ ap (λ (k : ℕ). down k (places (size q) k (q .from .search .point)) (q .partial) (ended-view (size q) (q .from))) (sym z)
           ∙ walk-ended;
       preserved = record {

@@ -12,7 +12,7 @@ use Rattle.lists.specs.Places.{places}
 use Rattle.definitions.specs.Table.{Table, table, dimension, largestDimension, largestList, largestBudget}
 use Rattle.definitions.specs.Shapes.{Shaped}
 use Rattle.definitions.specs.Distance.{center}
-use Rattle.definitions.specs.Walk.{Walked, walk}
+use Rattle.definitions.specs.Walk.{Walked, still, walk}
 use Rattle.distance.specs.Residuals.{residuals}
 use Rattle.search.specs.Kept.{Kept, leaf}
 use Rattle.search.specs.View.{Search, carried, seen}
@@ -48,7 +48,7 @@ prefix q = places (size q) (q .depth) (q .from .search .point)
 -- the walk of the definitions from there
 abbrev pub walkOf : Call → Walked Kept
 walkOf q =
-    walk (leaf (q .listing) (length (q .from .distances))) (center (q .table) (q .target)) (q .table) (q .budget) (q .depth) (prefix q) (q .partial) (seen (size q) (q .from .search) (q .from .distances) (q .from .points))
+    walk (leaf (q .listing) (length (q .from .distances))) (still (center (q .table) (q .target))) (q .table) (q .budget) (q .depth) (prefix q) (q .partial) (seen (size q) (q .from .search) (q .from .distances) (q .from .points))
 
 -- What a call asks for: a table, a target and a budget in their ranges, a search that is not exhausted, the residuals of the coordinates above, and places for the list.
 pub record Ready (q : Call) : Type 0 where

@@ -2,5 +2,6 @@
 pub mod Distances
 pub mod DistanceAgrees
 pub mod Slices
+pub mod ToldAs
 pub mod EntriesInTurn
 pub mod RatioNumbers

@@ -1,5 +1,4 @@
 -- What the contracts cite.
 pub mod Reports
 pub mod Entries
-pub mod Distance
 pub mod Told

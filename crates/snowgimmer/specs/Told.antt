@@ -5,15 +5,17 @@ use mathlib.Core.List.{List, [], _∷_, _++_}
 use mathlib.Core.Logic.{_↔_}
 use Prim.Native.Nat.{ℕ, _≤_}
 use lib.Dec.{T}
-use lib.ListN.{take}
+use lib.ListN.{length, take}
 use lib.IntN.{ℤ}
 use lib.Ieee.{Float}
 use Rattle.definitions.specs.Table.{Table, dimension, plusZero}
+use Rattle.definitions.specs.Refusals.{Refusal, whole, real}
+use Rattle.definitions.specs.Checks.{Verdict, pass, refuse}
 use Rattle.definitions.specs.Calls as C
 use Rattle.definitions.specs.Ratio.{ratioCall}
 use Rattle.definitions.specs.Reference.{changeReference, changeOutput}
 use Rattle.definitions.specs.Entries.{Entry, fed, givenVerdict}
-use Rattle.theorems.specs.Promises.{NearestPromises, SeededPromises, MlPromises, ListPromises, RoundPromises, PlanePromises}
+use Rattle.theorems.specs.Promises.{NearestPromises, SeededPromises, MlPromises, DistancePromises, ListPromises, RoundPromises, PlanePromises}
 use Rattle.theorems.specs.Doubles.{ofDoubles}
 use Rattle.theorems.specs.Settings.{RightP, RightQ}
 use Rattle.theorems.specs.Ratios.{Holds, Fails, Open, None, RatioCallPromises}
@@ -21,51 +23,88 @@ use Rattle.theorems.specs.Reference.{ReferencePromises}
 use Rattle.theorems.specs.Entries.{EntryPromises}
 use Rattle.listing.specs.View.{countsOf}
 use Rattle.snowgimmer.specs.declared.report.Report.{Report}
-use Rattle.snowgimmer.specs.Reports.{told, ofNearest, ofCounts, ofRatio, ofVerdict}
-use Rattle.snowgimmer.specs.Distance.{pointDistance}
+use Rattle.snowgimmer.specs.Reports.{told, ofNearest, ofDistance, ofCounts, ofRatio, ofVerdict}
 use Rattle.snowgimmer.specs.Entries.{entryReport, ToldOf}
+
+-- ---- the number and the three values, by what was answered
+
+-- a refusal: its number, and what it carries in its order, whole numbers in the first two values and a double in the third, 0 for what is missing
+pub record RefusalTold (e : Refusal) (r : Report) : Type 0 where
+  pub nothing : e .values ≡ [] → r ≡ told (e .number) 0 0 plusZero
+  pub one : (a : ℕ) → e .values ≡ whole a ∷ [] → r ≡ told (e .number) a 0 plusZero
+  pub two : (a b : ℕ) → e .values ≡ whole a ∷ whole b ∷ [] → r ≡ told (e .number) a b plusZero
+  pub double : (x : Float) → e .values ≡ real x ∷ [] → r ≡ told (e .number) 0 0 x
+  pub one-and-double : (a : ℕ) (x : Float) → e .values ≡ whole a ∷ real x ∷ [] → r ≡ told (e .number) a 0 x
+
+-- an answer: of a success what is given here, which has the number 0
+pub record AnswerTold {A : Type 0} (answer : C.Answer A) (of-success : A → Report) (r : Report) : Type 0 where
+  pub success : (a : A) → answer ≡ C.found a → r ≡ of-success a
+  pub refusal : (e : Refusal) → answer ≡ C.refused e → RefusalTold e r
+
+pub record VerdictTold (verdict : Verdict) (r : Report) : Type 0 where
+  pub success : verdict ≡ pass → r ≡ told 0 0 0 plusZero
+  pub refusal : (e : Refusal) → verdict ≡ refuse e → RefusalTold e r
+
+-- the nodes and the distance of a point found
+abbrev pub PointTold : C.Answer C.NearestPoint → Report → Type 0
+PointTold answer r = AnswerTold answer (λ a. told 0 (a .nodes) 0 (a .distance)) r
+
+-- ---- the calls
 
 -- the call `distance` gives, of the point written, the distance that a nearest search told
 abbrev pub DistanceAgrees : Table → List Float → C.Answer C.NearestPoint → List ℤ → Type 0
-DistanceAgrees t target answer out′ = dimension t ≤ 23 → (a : C.NearestPoint) → answer ≡ C.found a → pointDistance t target out′ ≡ C.found (a .distance)
+DistanceAgrees t target answer out′ = dimension t ≤ 23 → (a : C.NearestPoint) → answer ≡ C.found a → C.pointDistance t target out′ ≡ C.found (a .distance)
 
 pub record NearestTold (t : Table) (target : List Float) (out : List ℤ) (radius : Float) (budget : ℕ) (r : Report) (out′ : List ℤ) : Type 0 where
   pub tells : r ≡ ofNearest (C.nearest t target out radius budget)
+  pub told-as : PointTold (C.nearest t target out radius budget) r
   pub writes : out′ ≡ C.nearestOutput (C.nearest t target out radius budget) out
   pub promises : NearestPromises t target out radius budget (C.nearest t target out radius budget) out′
   pub distance-agrees : DistanceAgrees t target (C.nearest t target out radius budget) out′
 
 pub record SeededTold (t : Table) (target : List Float) (out candidate : List ℤ) (radius : Float) (budget : ℕ) (r : Report) (out′ : List ℤ) : Type 0 where
   pub tells : r ≡ ofNearest (C.nearestSeeded t target out candidate radius budget)
+  pub told-as : PointTold (C.nearestSeeded t target out candidate radius budget) r
   pub writes : out′ ≡ C.nearestOutput (C.nearestSeeded t target out candidate radius budget) out
   pub promises : SeededPromises t target out candidate radius budget (C.nearestSeeded t target out candidate radius budget) out′
   pub distance-agrees : DistanceAgrees t target (C.nearestSeeded t target out candidate radius budget) out′
 
 pub record MlTold (t : Table) (target : List Float) (out : List ℤ) (budget : ℕ) (r : Report) (out′ : List ℤ) : Type 0 where
   pub tells : r ≡ ofNearest (C.nearestMl t target out budget)
+  pub told-as : PointTold (C.nearestMl t target out budget) r
   pub writes : out′ ≡ C.nearestOutput (C.nearestMl t target out budget) out
   pub promises : MlPromises t target out budget (C.nearestMl t target out budget) out′
   pub distance-agrees : DistanceAgrees t target (C.nearestMl t target out budget) out′
 
+pub record DistanceTold (t : Table) (target : List Float) (point : List ℤ) (r : Report) : Type 0 where
+  pub tells : r ≡ ofDistance (C.pointDistance t target point)
+  pub told-as : AnswerTold (C.pointDistance t target point) (λ d. told 0 0 0 d) r
+  pub promises : DistancePromises t target point (C.pointDistance t target point)
+
 pub record ListTold (t : Table) (target distances : List Float) (points : List ℤ) (radius : Float) (budget : ℕ) (r : Report) (distances′ : List Float) (points′ : List ℤ) : Type 0 where
   pub tells : r ≡ ofCounts (countsOf (C.list t target distances points radius budget))
+  -- the nodes and the number of points
+  pub told-as : AnswerTold (C.list t target distances points radius budget) (λ l. told 0 (l .nodes) (length (l .points)) plusZero) r
   pub writes-distances : distances′ ≡ C.listDistances (C.list t target distances points radius budget) distances
   pub writes-points : points′ ≡ C.listPoints (C.list t target distances points radius budget) points
   pub promises : ListPromises t target distances points radius budget (C.list t target distances points radius budget) distances′ points′
 
 pub record RoundTold (coefficients : List Float) (out : List ℤ) (r : Report) (out′ : List ℤ) : Type 0 where
   pub tells : r ≡ ofVerdict (C.round coefficients out)
+  pub told-as : VerdictTold (C.round coefficients out) r
   pub writes : out′ ≡ C.roundOutput (C.round coefficients out) coefficients out
   pub promises : RoundPromises coefficients out (C.round coefficients out) out′
 
 pub record PlaneTold (t : Table) (coefficients : List Float) (out : List ℤ) (r : Report) (coefficients′ : List Float) (out′ : List ℤ) : Type 0 where
   pub tells : r ≡ ofVerdict (C.plane t coefficients out)
+  pub told-as : VerdictTold (C.plane t coefficients out) r
   pub writes : out′ ≡ C.planeOutput (C.plane t coefficients out) t coefficients out
   pub leaves : coefficients′ ≡ C.planeCoefficients (C.plane t coefficients out) t coefficients
   pub promises : PlanePromises t coefficients out (C.plane t coefficients out) coefficients′ out′
 
 pub record ChangeTold (a : List ℤ) (index : ℕ) (r : Report) (a′ : List ℤ) : Type 0 where
   pub tells : r ≡ ofVerdict (changeReference a index)
+  pub told-as : VerdictTold (changeReference a index) r
   pub writes : a′ ≡ changeOutput (changeReference a index) a index
   pub promises : ReferencePromises a index (changeReference a index) a′
 

@@ -6,9 +6,8 @@ ghost use Rattle.rounding.specs.Integers.{roundAway};
 ghost use Rattle.definitions.specs.Lent.{atEntry, atExit, tableAt};
 ghost use Rattle.definitions.specs.Calls as C;
 ghost use Rattle.definitions.specs.Entries.{entryOf};
-ghost use Rattle.snowgimmer.specs.Reports.{toldAt, ofDistance};
-ghost use Rattle.snowgimmer.specs.Told.{NearestTold, SeededTold, MlTold, ListTold, RatioTold, RoundTold, PlaneTold, ChangeTold, EntryTold};
-ghost use Rattle.snowgimmer.specs.Distance.{pointDistance};
+ghost use Rattle.snowgimmer.specs.Reports.{toldAt};
+ghost use Rattle.snowgimmer.specs.Told.{DistanceTold, NearestTold, SeededTold, MlTold, ListTold, RatioTold, RoundTold, PlaneTold, ChangeTold, EntryTold};
 
 mod entries;
 mod integers;
@@ -198,7 +197,7 @@ pub extern "C" fn snowgimmer_distance(
     second: &mut u64,
     real: &mut f64,
 ) -> u32
-    ensures { λ r. ⌜ toldAt r first second real ≡ ofDistance (pointDistance (tableAt weights mu) (atEntry target) (atEntry point)) ⌝ }
+    ensures { λ r. ⌜ DistanceTold (tableAt weights mu) (atEntry target) (atEntry point) (toldAt r first second real) ⌝ }
 {
     stored(
         distance_report(weights, mu, target, point),
@@ -208,7 +207,7 @@ pub extern "C" fn snowgimmer_distance(
     )
 }
 
-// The reference satellite of a point becomes that of coordinate r: coordinate r becomes -a(r), each other a(i) becomes
+// The reference satellite of a point becomes that of coordinate r, which turns into -a(r), and every other a(i) into
 // a(i) - a(r). The point is read and written, and may have any length.
 //
 // Refused: 19 and 20.

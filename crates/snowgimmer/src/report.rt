@@ -8,7 +8,7 @@ ghost use Rattle.enumerate.specs.View as N;
 ghost use Rattle.listing.specs.View as L;
 ghost use Rattle.ratio.specs.View.{verdictOf, answerOf};
 ghost use Rattle.snowgimmer.specs.Reports as R;
-ghost use Rattle.snowgimmer.specs.Distance.{pointDistance};
+ghost use Rattle.definitions.specs.Calls.{pointDistance};
 use checks::search_check;
 use definitions::LARGEST_DIMENSION;
 use distance::Distance;

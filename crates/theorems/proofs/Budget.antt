@@ -9,7 +9,7 @@ use lib.IntN.{ℤ}
 use lib.Ieee.{Float}
 use Rattle.definitions.specs.Table.{Table, dimension, plusZero}
 use Rattle.definitions.specs.Distance.{center}
-use Rattle.definitions.specs.Walk.{Walked, ended, exhausted, Leaf, walk}
+use Rattle.definitions.specs.Walk.{Walked, ended, exhausted, Leaf, Centers, still, walk}
 use Rattle.definitions.specs.Nearest.{Best, no-best, best, replaces, consider, nearestWalk}
 use Rattle.definitions.specs.Listing.{ListPoint, collect, listWalk}
 use Rattle.definitions.proofs.Leaves.{ended-is-not-exhausted, consider-is, nearestWalk-is, collect-is, listWalk-is}
@@ -45,14 +45,14 @@ module _ {K : Type 0} (f : Progress K) where
       same p q r = cc
 
 -- ---- the laws, whatever a leaf keeps and however a centre is computed
-module _ {K : Type 0} (leaf : Leaf K) (outcome : Outcome K) (leaf-is : LeafOf leaf outcome) (centerOf : ℕ → List ℤ → Float) (t : Table) (d : ℕ) (zs : List ℤ) (p : Float) (s : Progress K) where
-  pub walk-alike : (b b′ : ℕ) → s .nodes ≤ b → b ≤ b′ → (k : K) (S : Float) (m : ℕ) → walk leaf centerOf t b d zs p (ended (s .kept) (s .standing) (s .nodes)) ≡ ended k S m → walk leaf centerOf t b′ d zs p (ended (s .kept) (s .standing) (s .nodes)) ≡ ended k S m
+module _ {K : Type 0} (leaf : Leaf K) (outcome : Outcome K) (leaf-is : LeafOf leaf outcome) (centers : Centers K) (t : Table) (d : ℕ) (zs : List ℤ) (p : Float) (s : Progress K) where
+  pub walk-alike : (b b′ : ℕ) → s .nodes ≤ b → b ≤ b′ → (k : K) (S : Float) (m : ℕ) → walk leaf centers t b d zs p (ended (s .kept) (s .standing) (s .nodes)) ≡ ended k S m → walk leaf centers t b′ d zs p (ended (s .kept) (s .standing) (s .nodes)) ≡ ended k S m
   walk-alike b b′ l h k S m e =
-      alike (walkAll outcome centerOf t d zs p s) b b′ (walk leaf centerOf t b d zs p (ended (s .kept) (s .standing) (s .nodes))) (walk leaf centerOf t b′ d zs p (ended (s .kept) (s .standing) (s .nodes))) h
-      (walk-agrees leaf outcome leaf-is centerOf t b d zs p s l) (walk-agrees leaf outcome leaf-is centerOf t b′ d zs p s (le-trans l h)) k S m e
+      alike (walkAll outcome centers t d zs p s) b b′ (walk leaf centers t b d zs p (ended (s .kept) (s .standing) (s .nodes))) (walk leaf centers t b′ d zs p (ended (s .kept) (s .standing) (s .nodes))) h
+      (walk-agrees leaf outcome leaf-is centers t b d zs p s l) (walk-agrees leaf outcome leaf-is centers t b′ d zs p s (le-trans l h)) k S m e
 
-  pub walk-exhausted : (b : ℕ) → s .nodes ≤ b → (m : ℕ) (S : Float) → walk leaf centerOf t b d zs p (ended (s .kept) (s .standing) (s .nodes)) ≡ exhausted m S → m ≡ b
-  walk-exhausted b l m S e = agrees-exhausted (walkAll outcome centerOf t d zs p s) b (walk leaf centerOf t b d zs p (ended (s .kept) (s .standing) (s .nodes))) (walk-agrees leaf outcome leaf-is centerOf t b d zs p s l) m S e .1
+  pub walk-exhausted : (b : ℕ) → s .nodes ≤ b → (m : ℕ) (S : Float) → walk leaf centers t b d zs p (ended (s .kept) (s .standing) (s .nodes)) ≡ exhausted m S → m ≡ b
+  walk-exhausted b l m S e = agrees-exhausted (walkAll outcome centers t d zs p s) b (walk leaf centers t b d zs p (ended (s .kept) (s .standing) (s .nodes))) (walk-agrees leaf outcome leaf-is centers t b d zs p s l) m S e .1
 
 -- ---- `nearest` and `list`
 pub consider-leaf : LeafOf consider nearer
@@ -67,10 +67,10 @@ collect-leaf zs d k S m = collect-is zs d k S m
 
 module _ (t : Table) (target : List Float) (R : Float) where
   pub nearest-agrees : (b : ℕ) → Agrees b (nearestAll t target R) (nearestWalk t target R b)
-  nearest-agrees b = subst (Agrees b (nearestAll t target R)) (sym (nearestWalk-is t target R b)) (walk-agrees consider nearer consider-leaf (center t target) t b (dimension t) [] plusZero (record { kept = no-best; standing = R; nodes = 0 }) zero-le)
+  nearest-agrees b = subst (Agrees b (nearestAll t target R)) (sym (nearestWalk-is t target R b)) (walk-agrees consider nearer consider-leaf (still (center t target)) t b (dimension t) [] plusZero (record { kept = no-best; standing = R; nodes = 0 }) zero-le)
 
   pub list-agrees : (b : ℕ) → Agrees b (listAll t target R) (listWalk t target R b)
-  list-agrees b = subst (Agrees b (listAll t target R)) (sym (listWalk-is t target R b)) (walk-agrees collect added collect-leaf (center t target) t b (dimension t) [] plusZero (record { kept = []; standing = R; nodes = 0 }) zero-le)
+  list-agrees b = subst (Agrees b (listAll t target R)) (sym (listWalk-is t target R b)) (walk-agrees collect added collect-leaf (still (center t target)) t b (dimension t) [] plusZero (record { kept = []; standing = R; nodes = 0 }) zero-le)
 
   -- a walk that ends at budget b ends alike at every larger one
   pub nearest-alike : (b b′ : ℕ) → b ≤ b′ → (k : Best) (S : Float) (m : ℕ) → nearestWalk t target R b ≡ ended k S m → nearestWalk t target R b′ ≡ ended k S m

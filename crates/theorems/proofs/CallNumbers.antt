@@ -14,7 +14,7 @@ use Rattle.definitions.specs.Refusals.{lengthMismatch, candidateLength, listSiz
 use Rattle.definitions.specs.Checks.{notFinite, targetFault, tableChecks, handedOn}
 use Rattle.definitions.specs.Calls.{searchChecks, mlRadius, checksOfRound}
 use Rattle.theorems.specs.Refusals.{Numbered, no-checks, check, NumberIndex, FirstIndices}
-use Rattle.theorems.specs.Promises.{nearestCallChecks, seededCallChecks, mlCallChecks, listCallChecks, planeCallChecks}
+use Rattle.theorems.specs.Promises.{nearestCallChecks, seededCallChecks, mlCallChecks, distanceCallChecks, listCallChecks, planeCallChecks}
 use Rattle.theorems.proofs.FirstFaults.{target-first, coefficient-first}
 use Rattle.theorems.proofs.FirstRefusal.{carries-first, first-indices}
 use Rattle.theorems.proofs.CheckNumbers.{by-test, by-index, length-number, radius-number, budget-number, total-number, outside-number, widened-number, table-then, search-then}
@@ -51,6 +51,15 @@ module _ (t : Table) (target : List Float) (out : List ℤ) (budget : ℕ) where
   pub ml-indices : FirstIndices (mlCallChecks t target out budget) t targetFault target
   unfolding searchChecks
   ml-indices = first-indices ml-numbered refl refl refl refl (target-first target)
+
+-- ---- distance
+module _ (t : Table) (target : List Float) (point : List ℤ) where
+  pub distance-numbered : Numbered (2 ∷ 3 ∷ 4 ∷ 5 ∷ 6 ∷ 6 ∷ 7 ∷ 11 ∷ []) (distanceCallChecks t target point)
+  distance-numbered = search-then largestDimension t target point (check (total-number (distance t target point)) no-checks)
+
+  pub distance-indices : FirstIndices (distanceCallChecks t target point) t targetFault target
+  unfolding searchChecks
+  distance-indices = first-indices distance-numbered refl refl refl refl (target-first target)
 
 -- ---- list
 module _ (t : Table) (target distances : List Float) (points : List ℤ) (R : Float) (budget : ℕ) where

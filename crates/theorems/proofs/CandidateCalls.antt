@@ -15,7 +15,7 @@ use Rattle.rounding.specs.Kinds.{Finite}
 use Rattle.definitions.specs.Table.{Table, dimension, plusZero, largestDimension, largestBudget}
 use Rattle.definitions.specs.Distance.{center, distance}
 use Rattle.definitions.specs.Admitted.{isVector}
-use Rattle.definitions.specs.Walk.{Walked, ended, exhausted, walk as walkDown}
+use Rattle.definitions.specs.Walk.{Walked, ended, exhausted, still, walk as walkDown}
 use Rattle.definitions.specs.Nearest.{Best, no-best, best, consider, nearestWalk}
 use Rattle.definitions.specs.Seeds.{widened}
 use Rattle.definitions.specs.Refusals.{budgetExhausted}
@@ -60,7 +60,7 @@ nearest-passes t target out R budget searched radius few =
 -- at n = 0 the start of its walk is a leaf
 empty-walk : (t : Table) (target : List Float) (R : Float) (budget : ℕ) → dimension t ≡ 0 → nearestWalk t target R budget ≡ ended (best []) plusZero 0
 unfolding nearestWalk walkDown consider
-empty-walk t target R budget e = ap (λ (n : ℕ). walkDown consider (center t target) t budget n [] plusZero (ended no-best R 0)) e
+empty-walk t target R budget e = ap (λ (n : ℕ). walkDown consider (still (center t target)) t budget n [] plusZero (ended no-best R 0)) e
 
 -- ---- the call
 -- what the checks of such a call leave where none fits: the vector z is within the radius R, and the checks of every search and the budget's have passed

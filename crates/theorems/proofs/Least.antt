@@ -15,7 +15,7 @@ use Rattle.rounding.proofs.Interface.{number, zero-nonneg, ord, le→ord, lt→
 use Rattle.definitions.specs.Table.{Table, dimension, plusZero}
 use Rattle.definitions.specs.Distance.{center, distance}
 use Rattle.definitions.specs.Admitted.{allI64, isVector, passes, admitted}
-use Rattle.definitions.specs.Walk.{ended, exhausted}
+use Rattle.definitions.specs.Walk.{ended, exhausted, still}
 use Rattle.definitions.specs.Nearest.{Best, no-best, best, nearestWalk}
 use Rattle.definitions.proofs.Distances.{partial-nil}
 use Rattle.definitions.proofs.Admissions.{allI64-nil, vector-length, vector-all, passes-nil, admitted-is}
@@ -38,7 +38,7 @@ module _ (t : Table) (target : List Float) (limits : Limits t target) (R : Float
 
   pub nearest-through : Through t target limits R finite plus first (nearestAll t target R) (Covered t target (dimension t) []) (openedPrefixes t target R) (admittedVectors t target R)
   nearest-through =
-      subst (λ (x : Float). Through t target limits R finite plus first (walkAll nearer (center t target) t (dimension t) [] x first) (Covered t target (dimension t) []) (openedPrefixes t target R) (admittedVectors t target R)) (partial-nil t target)
+      subst (λ (x : Float). Through t target limits R finite plus first (walkAll nearer (still (center t target)) t (dimension t) [] x first) (Covered t target (dimension t) []) (openedPrefixes t target R) (admittedVectors t target R)) (partial-nil t target)
       (walk-through t target limits R finite plus (dimension t) [] (zero-add (dimension t)) allI64-nil passing first
       (record { radius = finite; within = le-refl (ord binary64 R); held = refl })
       (le→ord binary64 (subst (Number binary64) (sym (partial-nil t target)) (zero-nonneg binary64 .num)) (number finite) (passes-within t target limits R finite plus [] passing)))

@@ -37,6 +37,7 @@ pub mod FirstRefusal
 pub mod CheckNumbers
 pub mod CallNumbers
 pub mod MinusZero
+pub mod Accepted
 pub mod Entries
 -- ---- the calls
 pub mod Endings

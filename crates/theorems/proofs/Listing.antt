@@ -13,7 +13,7 @@ use Rattle.rounding.specs.Kinds.{Finite}
 use Rattle.definitions.specs.Table.{Table, dimension, weight, plusZero}
 use Rattle.definitions.specs.Distance.{center, term, partial, distance}
 use Rattle.definitions.specs.Admitted.{secondTest}
-use Rattle.definitions.specs.Walk.{ended}
+use Rattle.definitions.specs.Walk.{ended, still}
 use Rattle.definitions.specs.Listing.{ListPoint, listWalk}
 use Rattle.definitions.proofs.Distances.{partial-nil, partial-step}
 use Rattle.definitions.proofs.Admissions.{secondTest-is}
@@ -44,10 +44,10 @@ module _ (t : Table) (target : List Float) (R : Float) where
   module _ (level : ℕ) (zs : List ℤ) (e : suc level + length zs ≡ dimension t)
       (down : List ℤ → Float → Progress (List ListPoint) → Progress (List ListPoint))
       (down-is : (z : ℤ) (found : List ListPoint) (m : ℕ) → down (z ∷ zs) (partial t target (z ∷ zs)) (stands found m) ≡ stands (addAll (admittedBelow t target R level (z ∷ zs)) found) (m + length (openedBelow t target R level (z ∷ zs)))) where
-    child-is : (z : ℤ) (found : List ListPoint) (m : ℕ) → afterChild added (center t target) t (le (add binary64 (partial t target zs) (term (weight t level) (center t target level zs) z)) R) down (z ∷ zs) (add binary64 (partial t target zs) (term (weight t level) (center t target level zs) z)) (stands found m) ≡ stands (addAll (admittedFrom t target R level zs z) found) (m + length (openedFrom t target R level zs z))
+    child-is : (z : ℤ) (found : List ListPoint) (m : ℕ) → afterChild added (still (center t target)) t (le (add binary64 (partial t target zs) (term (weight t level) (center t target level zs) z)) R) down (z ∷ zs) (add binary64 (partial t target zs) (term (weight t level) (center t target level zs) z)) (stands found m) ≡ stands (addAll (admittedFrom t target R level zs z) found) (m + length (openedFrom t target R level zs z))
     child-is z found m =
-        subst (λ (x : Float). afterChild added (center t target) t (le x R) down (z ∷ zs) x (stands found m) ≡ stands (addAll (admittedFrom t target R level zs z) found) (m + length (openedFrom t target R level zs z))) (partial-step t target z zs level e)
-        (ap (λ (b : Bool). afterChild added (center t target) t b down (z ∷ zs) (partial t target (z ∷ zs)) (stands found m)) (sym (secondTest-is t target R z zs)) ∙ go (secondTest t target R z zs))
+        subst (λ (x : Float). afterChild added (still (center t target)) t (le x R) down (z ∷ zs) x (stands found m) ≡ stands (addAll (admittedFrom t target R level zs z) found) (m + length (openedFrom t target R level zs z))) (partial-step t target z zs level e)
+        (ap (λ (b : Bool). afterChild added (still (center t target)) t b down (z ∷ zs) (partial t target (z ∷ zs)) (stands found m)) (sym (secondTest-is t target R z zs)) ∙ go (secondTest t target R z zs))
       where
         more : (m n : ℕ) → suc m + n ≡ m + suc n
         more m n = omega arith
@@ -55,34 +55,34 @@ module _ (t : Table) (target : List Float) (R : Float) where
         one : (m : ℕ) → suc m ≡ m + 1
         one m = omega arith
 
-        go : (b : Bool) → afterChild added (center t target) t b down (z ∷ zs) (partial t target (z ∷ zs)) (stands found m) ≡ stands (addAll (cond b (admittedBelow t target R level (z ∷ zs)) []) found) (m + suc (length (cond b (openedBelow t target R level (z ∷ zs)) [])))
+        go : (b : Bool) → afterChild added (still (center t target)) t b down (z ∷ zs) (partial t target (z ∷ zs)) (stands found m) ≡ stands (addAll (cond b (admittedBelow t target R level (z ∷ zs)) []) found) (m + suc (length (cond b (openedBelow t target R level (z ∷ zs)) [])))
         go true = down-is z found (suc m) ∙ ap (stands (addAll (admittedBelow t target R level (z ∷ zs)) found)) (more m (length (openedBelow t target R level (z ∷ zs))))
         go false = ap (stands found) (one m)
 
-    each-is : (cs : List ℤ) (found : List ListPoint) (m : ℕ) → allChildren added (center t target) t down level zs (partial t target zs) (center t target level zs) cs (stands found m) ≡ stands (addAll (joined (admittedFrom t target R level zs) cs) found) (m + length (joined (openedFrom t target R level zs) cs))
-    each-is [] found m = all-nil added (center t target) t down level zs (partial t target zs) (center t target level zs) (stands found m) ∙ ap (stands found) (sym (add-zero m))
+    each-is : (cs : List ℤ) (found : List ListPoint) (m : ℕ) → allChildren added (still (center t target)) t down level zs (partial t target zs) (center t target level zs) cs (stands found m) ≡ stands (addAll (joined (admittedFrom t target R level zs) cs) found) (m + length (joined (openedFrom t target R level zs) cs))
+    each-is [] found m = all-nil added (still (center t target)) t down level zs (partial t target zs) (center t target level zs) (stands found m) ∙ ap (stands found) (sym (add-zero m))
     each-is (z ∷ cs) found m =
-        all-cons added (center t target) t down level zs (partial t target zs) (center t target level zs) z cs (stands found m)
-        ∙ ap (allChildren added (center t target) t down level zs (partial t target zs) (center t target level zs) cs) (child-is z found m)
+        all-cons added (still (center t target)) t down level zs (partial t target zs) (center t target level zs) z cs (stands found m)
+        ∙ ap (allChildren added (still (center t target)) t down level zs (partial t target zs) (center t target level zs) cs) (child-is z found m)
         ∙ each-is cs (addAll (admittedFrom t target R level zs z) found) (m + length (openedFrom t target R level zs z))
         ∙ ap (λ (l : List ListPoint). stands l (m + length (openedFrom t target R level zs z) + length (joined (openedFrom t target R level zs) cs))) (sym (add-append (admittedFrom t target R level zs z) (joined (admittedFrom t target R level zs) cs) found))
         ∙ ap (stands (addAll (joined (admittedFrom t target R level zs) (z ∷ cs)) found)) (add-assoc m (length (openedFrom t target R level zs z)) (length (joined (openedFrom t target R level zs) cs)) ∙ ap (λ (k : ℕ). m + k) (sym (length-append (openedFrom t target R level zs z) (joined (openedFrom t target R level zs) cs))))
 
   -- it finds the admitted vectors and counts the opened prefixes, whatever the table
-  pub walk-is : (d : ℕ) (zs : List ℤ) → length zs + d ≡ dimension t → (found : List ListPoint) (m : ℕ) → walkAll added (center t target) t d zs (partial t target zs) (stands found m) ≡ stands (addAll (admittedBelow t target R d zs) found) (m + length (openedBelow t target R d zs))
+  pub walk-is : (d : ℕ) (zs : List ℤ) → length zs + d ≡ dimension t → (found : List ListPoint) (m : ℕ) → walkAll added (still (center t target)) t d zs (partial t target zs) (stands found m) ≡ stands (addAll (admittedBelow t target R d zs) found) (m + length (openedBelow t target R d zs))
   walk-is zero zs e found m =
-      walkAll-leaf added (center t target) t zs (partial t target zs) (stands found m)
+      walkAll-leaf added (still (center t target)) t zs (partial t target zs) (stands found m)
       ∙ ap (λ (l : List (List ℤ)). stands (addAll l found) m) (sym (admitted-leaf t target R zs))
       ∙ ap (stands (addAll (admittedBelow t target R 0 zs) found)) (sym (add-zero m) ∙ ap (λ (l : List (List ℤ)). m + length l) (sym (opened-leaf t target R zs)))
   walk-is (suc level) zs e found m =
-      walkAll-level added (center t target) t level zs (partial t target zs) (stands found m)
-      ∙ each-is level zs (omega arith) (walkAll added (center t target) t level) (λ z found′ m′. walk-is level (z ∷ zs) (omega arith) found′ m′) (levelChildren t target R level zs) found m
+      walkAll-level added (still (center t target)) t level zs (partial t target zs) (stands found m)
+      ∙ each-is level zs (omega arith) (walkAll added (still (center t target)) t level) (λ z found′ m′. walk-is level (z ∷ zs) (omega arith) found′ m′) (levelChildren t target R level zs) found m
       ∙ ap (λ (l : List (List ℤ)). stands (addAll l found) (m + length (joined (openedFrom t target R level zs) (levelChildren t target R level zs)))) (sym (admitted-level t target R level zs))
       ∙ ap (λ (l : List (List ℤ)). stands (addAll (admittedBelow t target R (suc level) zs) found) (m + length l)) (sym (opened-level t target R level zs))
 
   pub listAll-is : listAll t target R ≡ stands (addAll (admittedVectors t target R) []) (length (openedPrefixes t target R))
   listAll-is =
-      ap (λ (x : Float). walkAll added (center t target) t (dimension t) [] x (stands [] 0)) (sym (partial-nil t target))
+      ap (λ (x : Float). walkAll added (still (center t target)) t (dimension t) [] x (stands [] 0)) (sym (partial-nil t target))
       ∙ walk-is (dimension t) [] (zero-add (dimension t)) [] 0
       ∙ ap (stands (addAll (admittedVectors t target R) [])) (zero-add (length (openedPrefixes t target R)))
 

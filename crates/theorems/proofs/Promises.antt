@@ -1,7 +1,7 @@
 -- Each call keeps its promises, for every input of doubles: the records of `specs/Promises.antt` for the calls of the specification. Assumes nothing.
 use mathlib.Core.Path.{_≡_, refl, sym, ap, _∙_, subst}
 use mathlib.Core.List.{List}
-use mathlib.Core.Logic.{inl}
+use mathlib.Core.Logic.{inl, inr}
 use Prim.Native.Nat.{ℕ}
 use native.Mathlib.Nat.{le-refl}
 use lib.Dec.{T, lit≤}
@@ -14,26 +14,28 @@ use Rattle.definitions.specs.Distance.{distance}
 use Rattle.definitions.specs.Admitted.{allI64, isVector}
 use Rattle.definitions.specs.Listing.{listWalk}
 use Rattle.definitions.specs.Seeds.{nearestPlane, widened}
+use Rattle.definitions.specs.Refusals.{Refusal}
 use Rattle.definitions.specs.Checks.{Verdict, pass, firstRefusal, radiusCheck, handedOn}
-use Rattle.definitions.specs.Calls.{Answer, found, after, NearestPoint, nearestWithin, searchChecks, nearest, widenedSearch, nearestSeeded, mlRadius, nearestMl, nearestOutput, ListAnswer, endOfList, list, listDistances, listPoints, checksOfRound, round, roundOutput, plane, planeOutput, planeCoefficients}
+use Rattle.definitions.specs.Calls.{Answer, found, refused, after, distanceChecks, pointDistance, NearestPoint, nearestWithin, searchChecks, nearest, widenedSearch, nearestSeeded, mlRadius, nearestMl, nearestOutput, ListAnswer, endOfList, list, listDistances, listPoints, checksOfRound, round, roundOutput, plane, planeOutput, planeCoefficients}
 use Rattle.definitions.proofs.Verdicts.{append-passes}
 use Rattle.definitions.proofs.Admissions.{vector-intro}
 use Rattle.definitions.proofs.Passed.{SearchPassed, radius-passed, nearest-passed, SeededPassed, seeded-passed, ml-passed, list-passed, round-refused, round-written, plane-refused, plane-written}
-use Rattle.definitions.proofs.Answers.{after-pass, nearest-checks-are, nearest-is, widened-search-is, seeded-checks-are, seeded-is, ml-checks-are, ml-is, list-checks-are, list-is, distances-found, points-found, round-is, plane-is}
+use Rattle.definitions.proofs.Answers.{after-pass, after-refuse, found≢refused, refused-same, nearest-checks-are, nearest-is, widened-search-is, seeded-checks-are, seeded-is, ml-checks-are, ml-is, list-checks-are, list-is, distances-found, points-found, round-is, plane-is}
 use Rattle.definitions.proofs.HandedOn.{own-finite, handed-on-finite, handed-on-nonneg, handed-on-above, handed-on-below, nearest-again, seeded-again, list-again, minus-as-plus}
 use Rattle.theorems.specs.Doubles.{ofDoubles}
-use Rattle.theorems.specs.Refusals.{NoneFits}
+use Rattle.theorems.specs.Refusals.{NoneFits, FirstFits}
 use Rattle.theorems.specs.Ordered.{StrictlyOrdered}
 use Rattle.theorems.specs.Answers.{Listed, SameAdmitted, Demand1}
-use Rattle.theorems.specs.Promises.{nearestCallChecks, NearestPromises, seededCallChecks, SeededPromises, mlCallChecks, MlPromises, listCallChecks, ListPromises, RoundPromises, planeCallChecks, PlanePromises}
+use Rattle.theorems.specs.Promises.{nearestCallChecks, NearestPromises, seededCallChecks, SeededPromises, mlCallChecks, MlPromises, distanceCallChecks, DistancePromises, listCallChecks, ListPromises, RoundPromises, planeCallChecks, PlanePromises}
 use Rattle.theorems.proofs.Limits.{Limits}
 use Rattle.theorems.proofs.WiderRadius.{same-admitted}
 use Rattle.theorems.proofs.Others.{Radius, OwnList, listed-same, bounds-at}
 use Rattle.theorems.proofs.Checked.{held, failed, limits-of-checks}
 use Rattle.theorems.proofs.Seeded.{widened-same, nearestPlane-vector, mlRadius-finite, mlRadius-nonneg, mlRadius-within}
-use Rattle.theorems.proofs.FirstRefusal.{decision, first-least, numbers-below, none-passes}
+use Rattle.theorems.proofs.FirstRefusal.{Decision, decision, first-refuses, first-least, numbers-below, none-passes}
 use Rattle.theorems.proofs.RefusedCalls.{demand-1, verdict-demand-1, slices-unchanged, list-own-numbers}
-use Rattle.theorems.proofs.CallNumbers.{nearest-numbered, nearest-indices, seeded-numbered, seeded-indices, ml-numbered, ml-indices, list-numbered, list-indices, round-numbered, round-index, plane-numbered, plane-indices}
+use Rattle.theorems.proofs.CallNumbers.{nearest-numbered, nearest-indices, seeded-numbered, seeded-indices, ml-numbered, ml-indices, distance-numbered, distance-indices, list-numbered, list-indices, round-numbered, round-index, plane-numbered, plane-indices}
+use Rattle.theorems.proofs.Accepted.{nearest-accepts, seeded-accepts, ml-accepts, distance-accepts, list-accepts, round-accepts, plane-accepts}
 use Rattle.theorems.proofs.MinusZero.{nearest-clear, seeded-clear, ml-clear, list-clear, call-clear}
 use Rattle.theorems.proofs.EndsAsWalk.{ends-as-list-walk}
 use Rattle.theorems.proofs.SearchCalls.{Ready, ready-from, SearchCall, demand-16, found-first, search-promises, nothing-exactly}
@@ -97,6 +99,7 @@ module _ (t : Table) (target distances : List Float) (points : List ℤ) (R : Fl
   pub list-promises : ListPromises t target distances points R budget answer (listDistances answer distances) (listPoints answer points)
   list-promises =
       record {
+        accepts = list-accepts t target distances points R budget;
         demand-1 = demand;
         least-number = first-least 0 (list-numbered t target distances points R budget) tt;
         first-indices = list-indices t target distances points R budget;
@@ -139,6 +142,7 @@ module _ (t : Table) (target : List Float) (out : List ℤ) (R : Float) (budget 
   pub nearest-promises : NearestPromises t target out R budget (nearest t target out R budget) (nearestOutput (nearest t target out R budget) out)
   nearest-promises =
       record {
+        accepts = nearest-accepts t target out R budget;
         search = search-promises nearest-call out (demand-16 nearest-call out);
         gives-16 = λ small. nothing-exactly nearest-call;
         list-first = λ small a q distances points b l e.
@@ -181,6 +185,7 @@ module _ (t : Table) (target : List Float) (out candidate : List ℤ) (R : Float
   pub seeded-promises : SeededPromises t target out candidate R budget (nearestSeeded t target out candidate R budget) (nearestOutput (nearestSeeded t target out candidate R budget) out)
   seeded-promises =
       record {
+        accepts = seeded-accepts t target out R budget candidate;
         search = search-promises seeded-call out (candidate-demand seeded-call out candidate seeded-candidate);
         from-candidate = from-candidate seeded-call out candidate seeded-candidate;
         own-radius = λ f. widened-same (dimension t) R (seeded-candidate f .start .before .limits .small) double;
@@ -216,6 +221,7 @@ module _ (t : Table) (target : List Float) (out : List ℤ) (budget : ℕ) (doub
   pub ml-promises : MlPromises t target out budget (nearestMl t target out budget) (nearestOutput (nearestMl t target out budget) out)
   ml-promises =
       record {
+        accepts = ml-accepts t target out budget;
         search = search-promises ml-call out (candidate-demand ml-call out (nearestPlane t target .point) ml-candidate);
         from-candidate = from-candidate ml-call out (nearestPlane t target .point) ml-candidate;
       }
@@ -225,6 +231,7 @@ module _ (coefficients : List Float) (out : List ℤ) where
   pub round-promises : RoundPromises coefficients out (round coefficients out) (roundOutput (round coefficients out) coefficients out)
   round-promises =
       record {
+        accepts = round-accepts coefficients out;
         demand-1 = verdict-demand-1 (round-is coefficients out) (λ e. round-refused coefficients out (round coefficients out)) (decision (checksOfRound coefficients out));
         least-number = first-least 0 (round-numbered coefficients out) tt;
         first-index = round-index coefficients out;
@@ -238,9 +245,38 @@ module _ (t : Table) (coefficients : List Float) (out : List ℤ) where
   pub plane-promises : PlanePromises t coefficients out verdict (planeCoefficients verdict t coefficients) (planeOutput verdict t coefficients out)
   plane-promises =
       record {
+        accepts = plane-accepts t coefficients out;
         demand-1 = verdict-demand-1 (plane-is t coefficients out) (λ e. plane-refused coefficients out t verdict) (decision (planeCallChecks t coefficients out));
         least-number = first-least 0 (plane-numbered t coefficients out) tt;
         first-indices = plane-indices t coefficients out;
         output = λ q. let w = plane-written coefficients out t verdict q in (w .0, subst (λ (z : List ℤ). T (isVector t z)) (sym (w .0)) (nearestPlane-vector t coefficients));
         residuals = λ q. plane-written coefficients out t verdict q .1;
+      }
+
+-- ---- distance
+module _ (t : Table) (target : List Float) (point : List ℤ) where
+  abbrev sum : Float
+  sum = distance t target point
+
+  distance-is : pointDistance t target point ≡ after (firstRefusal (distanceCallChecks t target point)) (found sum)
+  unfolding pointDistance distanceChecks
+  distance-is = refl
+
+  told : Decision (distanceCallChecks t target point) → (e : Refusal) → pointDistance t target point ≡ refused e → FirstFits (distanceCallChecks t target point) e
+  told (inl (d, f, q)) e r = subst (FirstFits (distanceCallChecks t target point)) (refused-same (sym (distance-is ∙ after-refuse _ (found sum) d q) ∙ r)) f
+  told (inr (none, q)) e r = absurd (found≢refused (sym (distance-is ∙ after-pass _ (found sum) q) ∙ r))
+
+  fits-none : Decision (distanceCallChecks t target point) → pointDistance t target point ≡ found sum → NoneFits (distanceCallChecks t target point)
+  fits-none (inl (d, f, q)) r = absurd (found≢refused (sym r ∙ distance-is ∙ after-refuse _ (found sum) d q))
+  fits-none (inr (none, q)) r = none
+
+  pub distance-promises : DistancePromises t target point (pointDistance t target point)
+  distance-promises =
+      let decided = decision (distanceCallChecks t target point) in
+      record {
+        accepts = distance-accepts t target point;
+        refuses = λ e. (λ f. distance-is ∙ after-refuse _ (found sum) e (first-refuses f), told decided e);
+        answers = (λ f. distance-is ∙ after-pass _ (found sum) (none-passes (distanceCallChecks t target point) f), fits-none decided);
+        least-number = first-least 0 (distance-numbered t target point) tt;
+        first-indices = distance-indices t target point;
       }

@@ -17,7 +17,7 @@ use Rattle.rounding.proofs.Interface.{ord}
 use Rattle.definitions.specs.Table.{Table, dimension, plusZero}
 use Rattle.definitions.specs.Distance.{center, partial, distance}
 use Rattle.definitions.specs.Admitted.{allI64, firstTest, secondTest, passes}
-use Rattle.definitions.specs.Walk.{ended}
+use Rattle.definitions.specs.Walk.{ended, still}
 use Rattle.definitions.specs.Nearest.{Best, no-best, nearestWalk}
 use Rattle.definitions.proofs.Admissions.{allI64-nil, passes-nil}
 use Rattle.theorems.specs.Counting.{eqZ, tally, count}
@@ -89,8 +89,8 @@ module _ (t : Table) (target : List Float) (limits : Limits t target) (R : Float
       go (inr (x, h, q)) = le-trans (least-member t target (ord binary64 (s .standing)) x (admittedBelow t target R d zs) h) (le-of-eq (sym (ap (ord binary64) q)))
 
   -- below a prefix
-  pub walk-radius : (d : ℕ) (zs : List ℤ) → length zs + d ≡ dimension t → T (allI64 zs) → T (passes t target R zs) → (s : Progress Best) → State t target limits R finite plus s → ord binary64 (partial t target zs) ≤ ord binary64 (s .standing) → ord binary64 (walkAll nearer (center t target) t d zs (partial t target zs) s .standing) ≡ leastOf t target (ord binary64 (s .standing)) (admittedBelow t target R d zs)
-  walk-radius d zs e a p s st h = radius-of d zs e a p s (walkAll nearer (center t target) t d zs (partial t target zs) s) _ (walk-through t target limits R finite plus d zs e a p s st h)
+  pub walk-radius : (d : ℕ) (zs : List ℤ) → length zs + d ≡ dimension t → T (allI64 zs) → T (passes t target R zs) → (s : Progress Best) → State t target limits R finite plus s → ord binary64 (partial t target zs) ≤ ord binary64 (s .standing) → ord binary64 (walkAll nearer (still (center t target)) t d zs (partial t target zs) s .standing) ≡ leastOf t target (ord binary64 (s .standing)) (admittedBelow t target R d zs)
+  walk-radius d zs e a p s st h = radius-of d zs e a p s (walkAll nearer (still (center t target)) t d zs (partial t target zs) s) _ (walk-through t target limits R finite plus d zs e a p s st h)
 
   -- at the end of the walk
   pub nearest-radius : (budget : ℕ) (k : Best) (S : Float) (m : ℕ) → nearestWalk t target R budget ≡ ended k S m → ord binary64 S ≡ leastOf t target (ord binary64 R) (admittedVectors t target R)

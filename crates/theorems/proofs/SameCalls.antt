@@ -12,7 +12,7 @@ use lib.IntN.{ℤ}
 use lib.Ieee.{Float}
 use Rattle.definitions.specs.Table.{Table, table, dimension, plusZero, largestDimension}
 use Rattle.definitions.specs.Distance.{center, distance}
-use Rattle.definitions.specs.Walk.{Walked, ended, Leaf, walk}
+use Rattle.definitions.specs.Walk.{Walked, ended, Leaf, still, walk}
 use Rattle.definitions.specs.Nearest.{no-best, consider, nearestWalk}
 use Rattle.definitions.specs.Listing.{collect, listWalk}
 use Rattle.definitions.specs.Seeds.{Plane, widened}
@@ -47,7 +47,7 @@ module _ (t : Table) (mu′ : List Float) (same : SameRead t (table (t .weights)
   abbrev n : ℕ
   n = dimension t
 
-  walk-of : {K : Type 0} (leaf : Leaf K) (budget : ℕ) (w : Walked K) → walk leaf (center t target) t budget n [] plusZero w ≡ walk leaf (center t′ target) t′ budget n [] plusZero w
+  walk-of : {K : Type 0} (leaf : Leaf K) (budget : ℕ) (w : Walked K) → walk leaf (still (center t target)) t budget n [] plusZero w ≡ walk leaf (still (center t′ target)) t′ budget n [] plusZero w
   walk-of leaf budget = same-walk leaf (center t target) (center t′ target) t mu′ budget n (same-center t mu′ same target) n [] (omega arith) plusZero
 
   nearest-walk : (R : Float) (budget : ℕ) → nearestWalk t target R budget ≡ nearestWalk t′ target R budget

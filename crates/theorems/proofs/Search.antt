@@ -17,6 +17,7 @@ use Rattle.rounding.proofs.Interface.{number, ord, le→ord, ord→le, ord→lt
 use Rattle.definitions.specs.Table.{Table, dimension, weight, plusZero}
 use Rattle.definitions.specs.Distance.{center, term, partial}
 use Rattle.definitions.specs.Admitted.{allI64, isVector, firstTest, secondTest, passes}
+use Rattle.definitions.specs.Walk.{still}
 use Rattle.definitions.specs.Nearest.{Best, no-best, best, lexicographic, replaces}
 use Rattle.definitions.proofs.Distances.{partial-step, level-is}
 use Rattle.definitions.proofs.Admissions.{allI64-intro, vector-intro, firstTest-is, secondTest-is}
@@ -68,9 +69,9 @@ module _ (t : Table) (target : List Float) (limits : Limits t target) (R : Float
   not-smaller zs no-best S e = absurd (true≢false (sym (replaces-none zs (partial t target zs) S) ∙ e))
   not-smaller zs (best b) S e = (best-is-some b, λ l. refuted (sym (replaces-best zs (partial t target zs) b S) ∙ e) (or-l (lt (partial t target zs) S) (eq (partial t target zs) S && lexicographic zs b) l))
 
-  leaf-through : (zs : List ℤ) → length zs + 0 ≡ dimension t → T (allI64 zs) → T (passes t target R zs) → (s : Progress Best) → State s → ord binary64 (partial t target zs) ≤ ord binary64 (s .standing) → Through s (walkAll nearer (center t target) t 0 zs (partial t target zs) s) (Covered t target 0 zs) (openedBelow t target R 0 zs) (admittedBelow t target R 0 zs)
+  leaf-through : (zs : List ℤ) → length zs + 0 ≡ dimension t → T (allI64 zs) → T (passes t target R zs) → (s : Progress Best) → State s → ord binary64 (partial t target zs) ≤ ord binary64 (s .standing) → Through s (walkAll nearer (still (center t target)) t 0 zs (partial t target zs) s) (Covered t target 0 zs) (openedBelow t target R 0 zs) (admittedBelow t target R 0 zs)
   leaf-through zs e a p s st h =
-      subst (λ (x : Progress Best). Through s x (Covered t target 0 zs) (openedBelow t target R 0 zs) (admittedBelow t target R 0 zs)) (sym (walkAll-leaf nearer (center t target) t zs (partial t target zs) s))
+      subst (λ (x : Progress Best). Through s x (Covered t target 0 zs) (openedBelow t target R 0 zs) (admittedBelow t target R 0 zs)) (sym (walkAll-leaf nearer (still (center t target)) t zs (partial t target zs) s))
       (subst (λ (l : List (List ℤ)). Through s (after (replaces zs (partial t target zs) (s .kept) (s .standing)) zs s) (Covered t target 0 zs) l (admittedBelow t target R 0 zs)) (sym (opened-leaf t target R zs))
       (go (replaces zs (partial t target zs) (s .kept) (s .standing)) refl))
     where
@@ -163,10 +164,10 @@ module _ (t : Table) (target : List Float) (limits : Limits t target) (R : Float
       vectors z = admittedFrom t target R level zs z
 
       abbrev walked : List ℤ → Progress Best → Progress Best
-      walked cs s = allChildren nearer (center t target) t down level zs P c cs s
+      walked cs s = allChildren nearer (still (center t target)) t down level zs P c cs s
 
       abbrev visited : Float → ℤ → Progress Best → Progress Best
-      visited sum z s = afterChild nearer (center t target) t (walkedBelow sum s) down (z ∷ zs) sum s
+      visited sum z s = afterChild nearer (still (center t target)) t (walkedBelow sum s) down (z ∷ zs) sum s
 
       -- ---- one child
       child-through : (z : ℤ) → T (childAt S z) → (s : Progress Best) → State s → ord binary64 (s .standing) ≤ ord binary64 S → Through s (visited (add binary64 P (term w c z)) z s) (Covered t target level (z ∷ zs)) (prefixes z) (vectors z)
@@ -210,7 +211,7 @@ module _ (t : Table) (target : List Float) (limits : Limits t target) (R : Float
           closed : walkedBelow (partial t target (z ∷ zs)) s ≡ false → s .kept ≡ no-best → secondTest t target R z zs ≡ false
           closed q v = secondTest-is t target R z zs ∙ ap (le (partial t target (z ∷ zs))) (sym (held-none s st v)) ∙ q
 
-          go : (b : Bool) → walkedBelow (partial t target (z ∷ zs)) s ≡ b → Through s (afterChild nearer (center t target) t b down (z ∷ zs) (partial t target (z ∷ zs)) s) (Covered t target level (z ∷ zs)) (prefixes z) (vectors z)
+          go : (b : Bool) → walkedBelow (partial t target (z ∷ zs)) s ≡ b → Through s (afterChild nearer (still (center t target)) t b down (z ∷ zs) (partial t target (z ∷ zs)) s) (Covered t target level (z ∷ zs)) (prefixes z) (vectors z)
           go true q =
               let o = le→ord binary64 (nonneg .num) (number (st .radius)) (of-true q) in
               let second : T (secondTest t target R z zs) = subst T (sym (secondTest-is t target R z zs)) (ord→le binary64 (nonneg .num) (number finite) (le-trans o (st .within))) in
@@ -259,12 +260,12 @@ module _ (t : Table) (target : List Float) (limits : Limits t target) (R : Float
 
       each-through : (cs : List ℤ) → ((y : ℤ) → 0 < times y cs → T (childAt S y)) → (s : Progress Best) → State s → ord binary64 (s .standing) ≤ ord binary64 S → Through s (walked cs s) (CoversAll cs) (joined prefixes cs) (joined vectors cs)
       each-through [] all s st l =
-          subst (λ (x : Progress Best). Through s x (CoversAll []) [] []) (sym (all-nil nearer (center t target) t down level zs P c s))
+          subst (λ (x : Progress Best). Through s x (CoversAll []) [] []) (sym (all-nil nearer (still (center t target)) t down level zs P c s))
           (record { state = st; less = le-refl (ord binary64 (s .standing)); covered = λ y h. absurd (lt-irrefl 0 h); reached = inl refl; few = omega arith; none = λ v. (v, sym (add-zero (s .nodes)), refl) })
       each-through (z ∷ cs) all s st l =
           let s₁ : Progress Best = visited (add binary64 P (term w c z)) z s in
           let u : Through s s₁ (Covered t target level (z ∷ zs)) (prefixes z) (vectors z) = child-through z (all z first) s st l in
-          subst (λ (x : Progress Best). Through s x (CoversAll (z ∷ cs)) (joined prefixes (z ∷ cs)) (joined vectors (z ∷ cs))) (sym (all-cons nearer (center t target) t down level zs P c z cs s))
+          subst (λ (x : Progress Best). Through s x (CoversAll (z ∷ cs)) (joined prefixes (z ∷ cs)) (joined vectors (z ∷ cs))) (sym (all-cons nearer (still (center t target)) t down level zs P c z cs s))
           (two-through z cs s s₁ (walked cs s₁) u (each-through cs (λ y h. all y (rest y h)) s₁ (u .state) (le-trans (u .less) l)))
         where
           first : 0 < times z (z ∷ cs)
@@ -315,9 +316,9 @@ module _ (t : Table) (target : List Float) (limits : Limits t target) (R : Float
           among (inr (x, h, v)) = inr (x, lt-of-lt-of-le h (fewer (count x) (count-append x) vectors), v)
 
   -- ---- the walk
-  pub walk-through : (d : ℕ) (zs : List ℤ) → length zs + d ≡ dimension t → T (allI64 zs) → T (passes t target R zs) → (s : Progress Best) → State s → ord binary64 (partial t target zs) ≤ ord binary64 (s .standing) → Through s (walkAll nearer (center t target) t d zs (partial t target zs) s) (Covered t target d zs) (openedBelow t target R d zs) (admittedBelow t target R d zs)
+  pub walk-through : (d : ℕ) (zs : List ℤ) → length zs + d ≡ dimension t → T (allI64 zs) → T (passes t target R zs) → (s : Progress Best) → State s → ord binary64 (partial t target zs) ≤ ord binary64 (s .standing) → Through s (walkAll nearer (still (center t target)) t d zs (partial t target zs) s) (Covered t target d zs) (openedBelow t target R d zs) (admittedBelow t target R d zs)
   walk-through zero zs e a p s st h = leaf-through zs e a p s st h
   walk-through (suc level) zs e a p s st h =
-      subst (λ (x : Progress Best). Through s x (Covered t target (suc level) zs) (openedBelow t target R (suc level) zs) (admittedBelow t target R (suc level) zs)) (sym (walkAll-level nearer (center t target) t level zs (partial t target zs) s))
-      (level-through level zs (omega arith) a p (s .standing) (st .radius) (st .within) (walkAll nearer (center t target) t level)
+      subst (λ (x : Progress Best). Through s x (Covered t target (suc level) zs) (openedBelow t target R (suc level) zs) (admittedBelow t target R (suc level) zs)) (sym (walkAll-level nearer (still (center t target)) t level zs (partial t target zs) s))
+      (level-through level zs (omega arith) a p (s .standing) (st .radius) (st .within) (walkAll nearer (still (center t target)) t level)
       (λ z a′ p′ s′ st′ h′. walk-through level (z ∷ zs) (omega arith) a′ p′ s′ st′ h′) s refl st)

@@ -16,7 +16,7 @@ use Rattle.rounding.proofs.Interface.{number, ord, le→ord, ord→le, finite-b
 use Rattle.definitions.specs.Table.{Table, dimension, weight, plusZero}
 use Rattle.definitions.specs.Distance.{center, term, partial, distance}
 use Rattle.definitions.specs.Admitted.{allI64, isVector, secondTest, passes, admitted}
-use Rattle.definitions.specs.Walk.{Walked, ended, exhausted, Leaf, Descent, descendIf, visit, walk}
+use Rattle.definitions.specs.Walk.{Walked, ended, exhausted, Leaf, Descent, still, descendIf, visit, walk}
 use Rattle.definitions.specs.Nearest.{Best, no-best, best, replaces, consider, nearestWalk}
 use Rattle.definitions.specs.Listing.{collect, listWalk}
 use Rattle.definitions.proofs.Distances.{partial-nil, partial-step}
@@ -50,19 +50,19 @@ module _ {K : Type 0} (leaf : Leaf K) (outcome : Outcome K) (leaf-is : LeafOf le
 
   module _ (level : ℕ) (zs : List ℤ) (p : Float) (down : Descent K) (Child : ℤ → Type 0)
       (keeps : (z : ℤ) → Child z → (k : K) (S : Float) (m : ℕ) → Q k S → T (le (childSum level zs p z) S) → Stands Q (down (z ∷ zs) (childSum level zs p z) (ended k S m))) where
-    visit-stands : (b : Bool) (z : ℤ) → Child z → (k : K) (S : Float) (m : ℕ) → Q k S → Stands Q (visit leaf centerOf t budget b down (z ∷ zs) (childSum level zs p z) k S m)
-    visit-stands true z i k S m q = rw (visit-exhausted leaf centerOf t budget down (z ∷ zs) (childSum level zs p z) k S m) (k, q)
-    visit-stands false z i k S m q = rw (visit-counted leaf centerOf t budget down (z ∷ zs) (childSum level zs p z) k S m) (go (le (childSum level zs p z) S) refl)
+    visit-stands : (b : Bool) (z : ℤ) → Child z → (k : K) (S : Float) (m : ℕ) → Q k S → Stands Q (visit leaf (still centerOf) t budget b down (z ∷ zs) (childSum level zs p z) k S m)
+    visit-stands true z i k S m q = rw (visit-exhausted leaf (still centerOf) t budget down (z ∷ zs) (childSum level zs p z) k S m) (k, q)
+    visit-stands false z i k S m q = rw (visit-counted leaf (still centerOf) t budget down (z ∷ zs) (childSum level zs p z) k S m) (go (le (childSum level zs p z) S) refl)
       where
-        go : (b : Bool) → le (childSum level zs p z) S ≡ b → Stands Q (descendIf leaf centerOf t budget b down (z ∷ zs) (childSum level zs p z) (ended k S (suc m)))
-        go true e = rw (descends leaf centerOf t budget down (z ∷ zs) (childSum level zs p z) (ended k S (suc m))) (keeps z i k S (suc m) q (of-true e))
-        go false e = rw (prunes leaf centerOf t budget down (z ∷ zs) (childSum level zs p z) (ended k S (suc m))) q
+        go : (b : Bool) → le (childSum level zs p z) S ≡ b → Stands Q (descendIf leaf (still centerOf) t budget b down (z ∷ zs) (childSum level zs p z) (ended k S (suc m)))
+        go true e = rw (descends leaf (still centerOf) t budget down (z ∷ zs) (childSum level zs p z) (ended k S (suc m))) (keeps z i k S (suc m) q (of-true e))
+        go false e = rw (prunes leaf (still centerOf) t budget down (z ∷ zs) (childSum level zs p z) (ended k S (suc m))) q
 
-    each-stands : (cs : List ℤ) → ((z : ℤ) → 0 < times z cs → Child z) → (w : Walked K) → Stands Q w → Stands Q (tryEach leaf centerOf t budget down level zs p (centerOf level zs) cs w)
-    each-stands [] all w q = rw (each-nil leaf centerOf t budget down level zs p (centerOf level zs) w) q
-    each-stands (z ∷ cs) all (exhausted m S) q = rw (each-exhausted leaf centerOf t budget down level zs p (centerOf level zs) (z ∷ cs) m S) q
+    each-stands : (cs : List ℤ) → ((z : ℤ) → 0 < times z cs → Child z) → (w : Walked K) → Stands Q w → Stands Q (tryEach leaf (still centerOf) t budget down level zs p (centerOf level zs) cs w)
+    each-stands [] all w q = rw (each-nil leaf (still centerOf) t budget down level zs p (centerOf level zs) w) q
+    each-stands (z ∷ cs) all (exhausted m S) q = rw (each-exhausted leaf (still centerOf) t budget down level zs p (centerOf level zs) (z ∷ cs) m S) q
     each-stands (z ∷ cs) all (ended k S m) q =
-        rw (each-cons leaf centerOf t budget down level zs p (centerOf level zs) z cs k S m)
+        rw (each-cons leaf (still centerOf) t budget down level zs p (centerOf level zs) z cs k S m)
         (each-stands cs (λ y h. all y (lt-of-lt-of-le h (le-add-left (times y cs) (tally (eqZ y z))))) _ (visit-stands (leb budget m) z (all z first) k S m q))
       where
         first : 0 < times z (z ∷ cs)
@@ -72,13 +72,13 @@ module _ {K : Type 0} (leaf : Leaf K) (outcome : Outcome K) (leaf-is : LeafOf le
   module _ (At : ℕ → List ℤ → Float → Type 0)
       (child-at : (level : ℕ) (zs : List ℤ) (p : Float) → At (suc level) zs p → (k : K) (S : Float) → Q k S → (z : ℤ) → 0 < times z (children (centerOf level zs) (sub binary64 S p) (weight t level)) → (k′ : K) (S′ : Float) → Q k′ S′ → T (le (childSum level zs p z) S′) → At level (z ∷ zs) (childSum level zs p z))
       (leaf-keeps : (zs : List ℤ) (p : Float) → At 0 zs p → (k : K) (S : Float) → Q k S → Q (outcome zs p k S .0) (outcome zs p k S .1)) where
-    walk-stands : (d : ℕ) (zs : List ℤ) (p : Float) → At d zs p → (w : Walked K) → Stands Q w → Stands Q (walk leaf centerOf t budget d zs p w)
-    walk-stands zero zs p a (exhausted m S) q = rw (walk-leaf leaf centerOf t budget zs p (exhausted m S), leaf-exhausted leaf centerOf t budget zs p m S) q
-    walk-stands zero zs p a (ended k S m) q = rw (walk-leaf leaf centerOf t budget zs p (ended k S m), leaf-ended leaf centerOf t budget zs p k S m, leaf-is zs p k S m) (leaf-keeps zs p a k S q)
-    walk-stands (suc level) zs p a (exhausted m S) q = rw (walk-level leaf centerOf t budget level zs p (exhausted m S), enter-exhausted leaf centerOf t budget (walk leaf centerOf t budget level) level zs p m S) q
+    walk-stands : (d : ℕ) (zs : List ℤ) (p : Float) → At d zs p → (w : Walked K) → Stands Q w → Stands Q (walk leaf (still centerOf) t budget d zs p w)
+    walk-stands zero zs p a (exhausted m S) q = rw (walk-leaf leaf (still centerOf) t budget zs p (exhausted m S), leaf-exhausted leaf (still centerOf) t budget zs p m S) q
+    walk-stands zero zs p a (ended k S m) q = rw (walk-leaf leaf (still centerOf) t budget zs p (ended k S m), leaf-ended leaf (still centerOf) t budget zs p k S m, leaf-is zs p k S m) (leaf-keeps zs p a k S q)
+    walk-stands (suc level) zs p a (exhausted m S) q = rw (walk-level leaf (still centerOf) t budget level zs p (exhausted m S), enter-exhausted leaf (still centerOf) t budget (walk leaf (still centerOf) t budget level) level zs p m S) q
     walk-stands (suc level) zs p a (ended k S m) q =
-        rw (walk-level leaf centerOf t budget level zs p (ended k S m), enter-each leaf centerOf t budget (walk leaf centerOf t budget level) (walk-counting leaf outcome leaf-is centerOf t budget level) level zs p k S m)
-        (each-stands level zs p (walk leaf centerOf t budget level) (λ z. 0 < times z (children (centerOf level zs) (sub binary64 S p) (weight t level)))
+        rw (walk-level leaf (still centerOf) t budget level zs p (ended k S m), enter-each leaf (still centerOf) t budget (walk leaf (still centerOf) t budget level) (walk-counting leaf outcome leaf-is (still centerOf) t budget level) level zs p k S m)
+        (each-stands level zs p (walk leaf (still centerOf) t budget level) (λ z. 0 < times z (children (centerOf level zs) (sub binary64 S p) (weight t level)))
         (λ z h k′ S′ m′ q′ l. walk-stands level (z ∷ zs) (childSum level zs p z) (child-at level zs p a k S q z h k′ S′ q′ l) (ended k′ S′ m′) q′)
         (children (centerOf level zs) (sub binary64 S p) (weight t level)) (λ z h. h) (ended k S m) q)
 

@@ -7,6 +7,7 @@ pub mod Unbudgeted
 pub mod Ordered
 pub mod Refusals
 pub mod Answers
+pub mod Accepted
 pub mod Promises
 pub mod Settings
 pub mod Ratios

@@ -17,10 +17,11 @@ use Rattle.definitions.specs.Listing.{ListPoint, listWalk}
 use Rattle.definitions.specs.Seeds.{nearestPlane, widened}
 use Rattle.definitions.specs.Refusals.{Refusal, budgetExhausted, outsideRadius, listFull}
 use Rattle.definitions.specs.Checks.{Verdict, pass, notFinite, targetFault, handedOn}
-use Rattle.definitions.specs.Calls.{Answer, found, refused, NearestPoint, checksOfNearest, nearest, checksOfSeeded, nearestSeeded, mlRadius, checksOfMl, nearestOutput, ListAnswer, list, listDistances, listPoints, written, coordinates, checksOfList, checksOfRound, checksOfPlane}
+use Rattle.definitions.specs.Calls.{Answer, found, refused, NearestPoint, checksOfNearest, nearest, checksOfSeeded, nearestSeeded, mlRadius, checksOfMl, nearestOutput, checksOfDistance, ListAnswer, list, listDistances, listPoints, written, coordinates, checksOfList, checksOfRound, checksOfPlane}
 use Rattle.theorems.specs.Counting.{NumberOf}
 use Rattle.theorems.specs.Ordered.{BeginsAt, StrictlyOrdered}
-use Rattle.theorems.specs.Refusals.{NoneFits, FirstIsLeast, NumberIndex, FirstIndices}
+use Rattle.theorems.specs.Refusals.{NoneFits, FirstFits, FirstIsLeast, NumberIndex, FirstIndices}
+use Rattle.theorems.specs.Accepted.{NearestAccepted, SeededAccepted, MlAccepted, DistanceAccepted, ListAccepted, RoundAccepted, PlaneAccepted}
 use Rattle.theorems.specs.Answers.{Nearest, Listed, EndsAsWalk, EndsAsListWalk, SameAdmitted, RadiusBounds, NoMinusZero, Demand1, VerdictDemand1}
 
 -- ---- nearest, nearest_seeded, nearest_ml: R is the radius that the walk starts from
@@ -77,6 +78,8 @@ module _ (t : Table) (target : List Float) (out : List ℤ) (radius : Float) (bu
   nearestCallChecks = checksOfNearest largestDimension t target out radius budget
 
   pub record NearestPromises (answer : Answer NearestPoint) (out′ : List ℤ) : Type 0 where
+    -- no check fits exactly where the input is one that the call accepts
+    pub accepts : NoneFits nearestCallChecks ↔ NearestAccepted t target out radius budget
     pub search : let R = handedOn radius in SearchPromises nearestCallChecks 16 t target R budget out answer out′
     -- 16 if and only if no check fits, no vector is admitted, and the budget has a node for every opened prefix
     pub gives-16 : dimension t ≤ 23 → let R = handedOn radius in (answer ≡ refused (outsideRadius R)) ↔ NothingToFind nearestCallChecks t target R budget
@@ -109,6 +112,7 @@ module _ (t : Table) (target : List Float) (out candidate : List ℤ) (radius : 
   seededCallChecks = checksOfSeeded largestDimension t target out candidate radius budget
 
   pub record SeededPromises (answer : Answer NearestPoint) (out′ : List ℤ) : Type 0 where
+    pub accepts : NoneFits seededCallChecks ↔ SeededAccepted t target out candidate radius budget
     pub search : let R = widened (dimension t) (handedOn radius) in SearchPromises seededCallChecks 15 t target R budget out answer out′
     pub from-candidate : NoneFits seededCallChecks → FromCandidate t target candidate (widened (dimension t) (handedOn radius)) budget out answer out′
     -- where no check fits, the call's own radius is widened to what the radius handed on is
@@ -122,8 +126,22 @@ module _ (t : Table) (target : List Float) (out : List ℤ) (budget : ℕ) where
   mlCallChecks = checksOfMl largestDimension t target out budget
 
   pub record MlPromises (answer : Answer NearestPoint) (out′ : List ℤ) : Type 0 where
+    pub accepts : NoneFits mlCallChecks ↔ MlAccepted t target out budget
     pub search : let R = widened (dimension t) (mlRadius t target) in SearchPromises mlCallChecks 15 t target R budget out answer out′
     pub from-candidate : NoneFits mlCallChecks → FromCandidate t target (nearestPlane t target .point) (widened (dimension t) (mlRadius t target)) budget out answer out′
+
+-- ---- distance
+module _ (t : Table) (target : List Float) (point : List ℤ) where
+  abbrev pub distanceCallChecks : List Verdict
+  distanceCallChecks = checksOfDistance largestDimension t target point
+
+  pub record DistancePromises (answer : Answer Float) : Type 0 where
+    pub accepts : NoneFits distanceCallChecks ↔ DistanceAccepted t target point
+    -- refused exactly by the first check that fits, with its number and values; where none fits, the computed distance
+    pub refuses : (e : Refusal) → FirstFits distanceCallChecks e ↔ (answer ≡ refused e)
+    pub answers : NoneFits distanceCallChecks ↔ (answer ≡ found (distance t target point))
+    pub least-number : FirstIsLeast distanceCallChecks
+    pub first-indices : FirstIndices distanceCallChecks t targetFault target
 
 -- ---- list
 
@@ -146,6 +164,7 @@ module _ (t : Table) (target distances : List Float) (points : List ℤ) (radius
   listCallChecks = checksOfList largestDimension t target distances points radius budget
 
   pub record ListPromises (answer : Answer ListAnswer) (distances′ : List Float) (points′ : List ℤ) : Type 0 where
+    pub accepts : NoneFits listCallChecks ↔ ListAccepted t target distances points radius budget
     -- refused by the first check that fits, with its number and values; where none fits, a list or 15 or 18;
     -- a refusal leaves both slices as they were
     pub demand-1 : Demand1 listCallChecks 15 18 answer ((distances′ ≡ distances) × (points′ ≡ points))
@@ -176,6 +195,7 @@ module _ (t : Table) (target distances : List Float) (points : List ℤ) (radius
 
 -- `round`
 pub record RoundPromises (coefficients : List Float) (out : List ℤ) (verdict : Verdict) (out′ : List ℤ) : Type 0 where
+  pub accepts : NoneFits (checksOfRound coefficients out) ↔ RoundAccepted coefficients out
   -- refused exactly by the first check that fits, with its number and values, and out is as it was
   pub demand-1 : VerdictDemand1 (checksOfRound coefficients out) verdict (out′ ≡ out)
   pub least-number : FirstIsLeast (checksOfRound coefficients out)
@@ -189,6 +209,7 @@ module _ (t : Table) (coefficients : List Float) (out : List ℤ) where
   planeCallChecks = checksOfPlane largestDimension t coefficients out
 
   pub record PlanePromises (verdict : Verdict) (coefficients′ : List Float) (out′ : List ℤ) : Type 0 where
+    pub accepts : NoneFits planeCallChecks ↔ PlaneAccepted t coefficients out
     -- refused exactly by the first check that fits, with its number and values, and both slices are as they were
     pub demand-1 : VerdictDemand1 planeCallChecks verdict ((out′ ≡ out) × (coefficients′ ≡ coefficients))
     pub least-number : FirstIsLeast planeCallChecks

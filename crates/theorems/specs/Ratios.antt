@@ -77,14 +77,19 @@ module _ (p q : ℕ) (t : Table) (target : List Float) (R : Float) (answer : Ans
   Means «open» = Open
   Means none = None t target R answer
 
-  -- the verdict is each of the four exactly where what it means is so; and it holds if d1 is 0, whatever the other distances are
-  pub record RatioPromises : Type 0 where
-    pub means : (verdict : Ratio) → (listRatio p q answer R ≡ verdict) ↔ Means verdict
+  -- what is promised where Is says which the verdict is: each of the four exactly where what it means is so
+  pub record RatioMeans (Is : Ratio → Type 0) : Type 0 where
+    pub means : (verdict : Ratio) → Is verdict ↔ Means verdict
     -- where q is 1, as without settings, "holds" speaks of R and of every other distance themselves
     pub once : q ≡ 1 → (h : Holds) →
         T (le (times p (h .point .distance)) R)
         × ((y : List ℤ) → Other t (h .point .point) y → T (le (times p (h .point .distance)) (distance t target y)))
-    pub zero-holds : (l : ListAnswer) → answer ≡ found l → BeginsAt plusZero (l .points) → listRatio p q answer R ≡ holds
+    -- it holds if d1 is 0, whatever the other distances are
+    pub zero-holds : (l : ListAnswer) → answer ≡ found l → BeginsAt plusZero (l .points) → Is holds
+
+  -- of the verdict on a list
+  abbrev pub RatioPromises : Type 0
+  RatioPromises = RatioMeans (λ verdict. listRatio p q answer R ≡ verdict)
 
 -- ---- the call `ratio`, on the distances that a `list` at R wrote or on any others
 pub record RatioCallPromises (p q : ℕ) (distances : List Float) (R : Float) (answer : Answer Ratio) : Type 0 where
@@ -95,7 +100,7 @@ pub record RatioCallPromises (p q : ℕ) (distances : List Float) (R : Float) (a
   pub gives-1 : (answer ≡ refused (settingRange 1)) ↔ (RightP p q × (RightQ q → ⊥))
   pub refuses : (e : Refusal) → answer ≡ refused e → (e ≡ settingRange 0) ⊎ (e ≡ settingRange 1)
   -- handed the distances that a `list` at R left, as many as it has points, whatever its table, target, budget and slices, and none of a list
-  -- that was refused: a verdict is the answer exactly where what it means is so of that list
+  -- that was refused: what is promised of the verdict on that list is so of the answer
   pub of-list : RightP p q → RightQ q → (t : Table) (target lent : List Float) (points : List ℤ) (budget : ℕ) → T (ofDoubles t target) →
       let l = list t target lent points R budget in
-      distances ≡ take (pointsIn l) (listDistances l lent) → (verdict : Ratio) → (answer ≡ found verdict) ↔ Means p q t target R l verdict
+      distances ≡ take (pointsIn l) (listDistances l lent) → RatioMeans p q t target R l (λ verdict. answer ≡ found verdict)

@@ -6,6 +6,7 @@ use lib.IntN.{ℤ}
 use lib.Ieee.{Float, binary64, add, sub, le}
 use Rattle.definitions.specs.Table.{Table, dimension, weight, plusZero}
 use Rattle.definitions.specs.Distance.{term, center}
+use Rattle.definitions.specs.Walk.{Centers, still}
 use Rattle.definitions.specs.Nearest.{Best, no-best, best, replaces}
 use Rattle.definitions.specs.Listing.{ListPoint}
 use Rattle.theorems.specs.Children.{children}
@@ -27,7 +28,11 @@ counted s = record { kept = s .kept; standing = s .standing; nodes = suc (s .nod
 abbrev pub walkedBelow : {K : Type 0} → Float → Progress K → Bool
 walkedBelow sum s = le sum (s .standing)
 
-module _ {K : Type 0} (outcome : Outcome K) (centerOf : ℕ → List ℤ → Float) (t : Table) where
+module _ {K : Type 0} (outcome : Outcome K) (centers : Centers K) (t : Table) where
+  -- a level has taken an integer
+  abbrev pub took : ℕ → ℤ → Progress K → Progress K
+  took level z s = record { kept = centers .moved level z (s .kept); standing = s .standing; nodes = s .nodes }
+
   -- a child costs a node; below it is walked if the test given holds
   abbrev pub afterChild : Bool → (List ℤ → Float → Progress K → Progress K) → List ℤ → Float → Progress K → Progress K
   afterChild passed down zs sum s = cond passed (down zs sum (counted s)) (counted s)
@@ -37,13 +42,13 @@ module _ {K : Type 0} (outcome : Outcome K) (centerOf : ℕ → List ℤ → Flo
   allChildren down level zs p c [] s = s
   allChildren down level zs p c (z ∷ cs) s =
       let sum = add binary64 p (term (weight t level) c z) in
-      allChildren down level zs p c cs (afterChild (walkedBelow sum s) down (z ∷ zs) sum s)
+      allChildren down level zs p c cs (afterChild (walkedBelow sum s) down (z ∷ zs) sum (took level z s))
 
   unfoldable pub walkAll : ℕ → List ℤ → Float → Progress K → Progress K
   unfolding allChildren children sub
   walkAll zero zs p s = record { kept = outcome zs p (s .kept) (s .standing) .0; standing = outcome zs p (s .kept) (s .standing) .1; nodes = s .nodes }
   walkAll (suc level) zs p s =
-      let c = centerOf level zs in
+      let c = centers .at level zs (s .kept) in
       allChildren (walkAll level) level zs p c (children c (sub binary64 (s .standing) p) (weight t level)) s
 
 -- the leaf of `nearest`: the best and the standing radius after it
@@ -56,7 +61,7 @@ added zs d found standing = (record { distance = d; point = zs } ∷ found, stan
 
 -- the walk of `nearest` and that of `list`
 abbrev pub nearestAll : Table → List Float → Float → Progress Best
-nearestAll t target R = walkAll nearer (center t target) t (dimension t) [] plusZero (record { kept = no-best; standing = R; nodes = 0 })
+nearestAll t target R = walkAll nearer (still (center t target)) t (dimension t) [] plusZero (record { kept = no-best; standing = R; nodes = 0 })
 
 abbrev pub listAll : Table → List Float → Float → Progress (List ListPoint)
-listAll t target R = walkAll added (center t target) t (dimension t) [] plusZero (record { kept = []; standing = R; nodes = 0 })
+listAll t target R = walkAll added (still (center t target)) t (dimension t) [] plusZero (record { kept = []; standing = R; nodes = 0 })

@@ -1,8 +1,10 @@
-//! Compares the port's static library with the Rust original and with the specification, a case at a time.
+//! Compares the port's static library with the Rust original and with the specification, a case at a time, and the job
+//! program with the text that the oracle has for a job's bytes.
 
 pub mod answer;
 pub mod case;
 pub mod expected;
+pub mod job;
 pub mod listed;
 pub mod paper;
 pub mod port;

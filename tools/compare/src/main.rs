@@ -1,6 +1,8 @@
-//! Runs the short cases and then random ones, stops at the first difference, and prints what was met.
+//! Runs the short cases, then random ones, then random jobs, stops at the first difference, and prints what was met.
 
 use compare::case::{Call, Case};
+use compare::job::program::{Printed, Program};
+use compare::job::{self, Found};
 use compare::shrink::shrink;
 use compare::tally::Tally;
 use compare::{Comparison, Difference, compare, random, short};
@@ -8,25 +10,28 @@ use std::process::ExitCode;
 use std::sync::atomic::{AtomicU64, Ordering};
 use std::time::Instant;
 
-const USAGE: &str = "compare [--part short|random|all] [--seed S] [--cases N] [--only K]";
+const USAGE: &str = "compare [--part short|random|jobs|all] [--seed S] [--cases N] [--jobs N] [--only K]";
+const PARTS: [&str; 4] = ["short", "random", "jobs", "all"];
 
 struct Options {
     part: String,
     seed: u64,
     cases: u64,
+    jobs: u64,
     only: Option<u64>,
 }
 
 fn options() -> Result<Options, String> {
-    let mut options = Options { part: "all".into(), seed: 1, cases: 1_000_000, only: None };
+    let mut options = Options { part: "all".into(), seed: 1, cases: 1_000_000, jobs: 60_000, only: None };
     let mut words = std::env::args().skip(1);
     while let Some(name) = words.next() {
         let value = words.next().ok_or(USAGE)?;
         let number = || value.parse::<u64>().map_err(|_| format!("{name} {value}: {USAGE}"));
         match name.as_str() {
-            "--part" if ["short", "random", "all"].contains(&value.as_str()) => options.part.clone_from(&value),
+            "--part" if PARTS.contains(&value.as_str()) => options.part.clone_from(&value),
             "--seed" => options.seed = number()?,
             "--cases" => options.cases = number()?,
+            "--jobs" => options.jobs = number()?,
             "--only" => options.only = Some(number()?),
             _ => return Err(format!("{name} {value}: {USAGE}")),
         }
@@ -125,18 +130,61 @@ fn random_part(options: &Options) -> bool {
     run.end(start, options.seed)
 }
 
+// ---- the jobs
+
+fn jobs_part(options: &Options, program: &Program) -> bool {
+    let start = Instant::now();
+    let numbers = options.only.map_or(0..options.jobs, |k| k..k + 1);
+    if let Some(number) = options.only {
+        let bytes = job::random::bytes(options.seed, number);
+        println!("{}\nexpected {}", hexadecimal(&bytes), Printed::expected(oracle::job_text(&bytes)));
+    }
+    let met = job::run(program, options.seed, numbers);
+    println!("\n## jobs, seed {}\n\n{}", options.seed, met.tally.text(start.elapsed()));
+    let Some(Found { number, bytes, comparison }) = met.found else { return true };
+    println!("DIFFERENCE in job {number} of seed {}", options.seed);
+    print_job(&bytes, &comparison);
+    let smallest = job::shrink::shrink(&bytes, &|bytes| job::compare(program, bytes).differs());
+    println!("the smallest found:");
+    print_job(&smallest, &job::compare(program, &smallest));
+    false
+}
+
+fn hexadecimal(bytes: &[u8]) -> String {
+    bytes.iter().map(|byte| format!("{byte:02x}")).collect()
+}
+
+fn print_job(bytes: &[u8], comparison: &job::Comparison) {
+    let job::Comparison { expected, printed } = comparison;
+    println!("{}\n  expected {expected}\n  the program {printed}", hexadecimal(bytes));
+    let (ours, theirs) = (&expected.text, &printed.text);
+    let shared = ours.iter().zip(theirs).take_while(|(a, b)| a == b).count();
+    println!("  the first {shared} bytes of the texts are the same");
+}
+
+// ---- the command
+
+/// True if every answer was the expected one.
+fn run() -> Result<bool, String> {
+    let options = options()?;
+    let wanted = |part: &str| [part, "all"].contains(&options.part.as_str());
+    // Before any case is run it is known whether the program is there.
+    let program = if wanted("jobs") { Some(Program::find()?) } else { None };
+    signals::name_the_case();
+    Ok((!wanted("short") || short_part(&options))
+        && (!wanted("random") || random_part(&options))
+        && program.is_none_or(|program| jobs_part(&options, &program)))
+}
+
 fn main() -> ExitCode {
-    let options = match options() {
-        Ok(options) => options,
+    match run() {
+        Ok(true) => ExitCode::SUCCESS,
+        Ok(false) => ExitCode::FAILURE,
         Err(message) => {
             eprintln!("{message}");
-            return ExitCode::from(2);
+            ExitCode::from(2)
         }
-    };
-    signals::name_the_case();
-    let short = options.part == "random" || short_part(&options);
-    let random = options.part == "short" || !short || random_part(&options);
-    if short && random { ExitCode::SUCCESS } else { ExitCode::FAILURE }
+    }
 }
 
 /// A port that stops the process must not hide the case in which it did.

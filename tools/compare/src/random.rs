@@ -7,8 +7,8 @@ use crate::rng::Rng;
 use crate::values::{self, SMALLEST};
 
 /// A short walk's most nodes, and those of one in 200.
-const SHORT: u64 = 1_500;
-const LONG: u64 = 20_000;
+pub const SHORT: u64 = 1_500;
+pub const LONG: u64 = 20_000;
 
 #[must_use]
 pub fn case(seed: u64, number: u64) -> Case {
@@ -34,11 +34,17 @@ pub fn case(seed: u64, number: u64) -> Case {
         fault(rng, &mut case);
     }
     // Faults may undo each other and leave a sound case with a long walk.
-    let long = |case: &Case| paper::refusal(case).is_none() && reach(case, LONG).is_none();
-    if faults > 0 && case.budget > LONG && long(&case) {
-        case.budget = LONG;
+    if faults > 0 {
+        hold_budget(&mut case);
     }
     case
+}
+
+/// Stops a walk that is longer than a long one by its budget.
+pub fn hold_budget(case: &mut Case) {
+    if case.budget > LONG && paper::refusal(case).is_none() && reach(case, LONG).is_none() {
+        case.budget = LONG;
+    }
 }
 
 fn rounding(rng: &mut Rng, call: Call) -> Case {
@@ -49,7 +55,8 @@ fn rounding(rng: &mut Rng, call: Call) -> Case {
     case
 }
 
-fn over_table(rng: &mut Rng, call: Call) -> Case {
+/// A sound case of a call that takes a table.
+pub fn over_table(rng: &mut Rng, call: Call) -> Case {
     let (weights, mu, mut target) = values::table(rng);
     if call == Call::Plane && rng.once_in(2) {
         target = coefficients(rng, target.len());
@@ -78,7 +85,7 @@ fn coefficients(rng: &mut Rng, n: usize) -> Vec<f64> {
 // ---- radius and budget
 
 /// A computed distance and its neighbours; a share of the weights; the ends of the range.
-fn radius(rng: &mut Rng, case: &Case) -> f64 {
+pub fn radius(rng: &mut Rng, case: &Case) -> f64 {
     let n = case.weights.len();
     let of = |z: &[i64]| paper::distance(&case.weights, &case.mu, &case.target, z);
     if case.call == Call::Seeded && !rng.once_in(8) {
@@ -110,12 +117,14 @@ fn radius(rng: &mut Rng, case: &Case) -> f64 {
     }
 }
 
-fn held(radius: f64) -> f64 {
+/// The radius, and in place of an infinite one the largest double.
+#[must_use]
+pub fn held(radius: f64) -> f64 {
     if radius.is_finite() { radius } else { f64::MAX }
 }
 
 /// A budget around the walk's count or far above it; where the walk is long, one that stops it.
-fn budget(rng: &mut Rng, case: &mut Case, cap: u64) {
+pub fn budget(rng: &mut Rng, case: &mut Case, cap: u64) {
     case.budget = match reach(case, cap) {
         None => {
             let most = cap as usize >> rng.below(12);
@@ -156,6 +165,11 @@ fn places(rng: &mut Rng, case: &mut Case, cap: u64) {
 
 // ---- faults: what a check refuses, or what it must not look at
 
+pub const BAD_MU: [f64; 5] = [f64::NAN, f64::INFINITY, -1e300, LIMIT.next_up(), -2.0 * LIMIT];
+pub const BAD_WEIGHTS: [f64; 6] = [0.0, -0.0, -1.0, f64::NAN, f64::INFINITY, -SMALLEST];
+pub const BAD_TARGETS: [f64; 5] = [f64::NAN, f64::NEG_INFINITY, LIMIT.next_up(), -LIMIT - 1.0, f64::MAX];
+pub const BAD_BUDGETS: [u64; 5] = [MOST_NODES + 1, u64::MAX, 1 << 63, MOST_NODES + 2, 1 << 61];
+
 fn fault(rng: &mut Rng, case: &mut Case) {
     match rng.below(13) {
         0 => resize(rng, &mut case.weights, 1.0),
@@ -164,11 +178,11 @@ fn fault(rng: &mut Rng, case: &mut Case) {
         4 => resize(rng, &mut case.candidate, 0),
         5 => case.places = other_length(rng, case.places),
         6 => case.points = other_length(rng, case.points),
-        7 => set(rng, &mut case.mu, &[f64::NAN, f64::INFINITY, -1e300, LIMIT.next_up(), -2.0 * LIMIT]),
-        8 => set(rng, &mut case.weights, &[0.0, -0.0, -1.0, f64::NAN, f64::INFINITY, -SMALLEST]),
-        9 => set(rng, &mut case.target, &[f64::NAN, f64::NEG_INFINITY, LIMIT.next_up(), -LIMIT - 1.0, f64::MAX]),
+        7 => set(rng, &mut case.mu, &BAD_MU),
+        8 => set(rng, &mut case.weights, &BAD_WEIGHTS),
+        9 => set(rng, &mut case.target, &BAD_TARGETS),
         10 => case.radius = bad_radius(rng),
-        11 => case.budget = rng.pick(&[MOST_NODES + 1, u64::MAX, 1 << 63, MOST_NODES + 2, 1 << 61]),
+        11 => case.budget = rng.pick(&BAD_BUDGETS),
         _ => match case.call {
             Call::List => *case = case.clone().with_places(MOST_PLACES + 1 + rng.below(3)),
             Call::RoundAway | Call::Round => case.places += 1,
@@ -197,7 +211,7 @@ fn other_length(rng: &mut Rng, len: usize) -> usize {
     }
 }
 
-fn resize<T: Clone>(rng: &mut Rng, list: &mut Vec<T>, item: T) {
+pub fn resize<T: Clone>(rng: &mut Rng, list: &mut Vec<T>, item: T) {
     let len = other_length(rng, list.len());
     list.resize(len, item);
 }
@@ -209,11 +223,16 @@ fn set(rng: &mut Rng, list: &mut [f64], values: &[f64]) {
     }
 }
 
-/// Negative or not finite; NaNs of both kinds and signs, with payloads that a refusal must hand back.
-fn bad_radius(rng: &mut Rng) -> f64 {
+/// Negative or not finite; NaNs with payloads that a refusal must hand back.
+pub fn bad_radius(rng: &mut Rng) -> f64 {
     match rng.below(4) {
         0 => rng.pick(&[-SMALLEST, -1.0, f64::MIN, -f64::MIN_POSITIVE]),
         1 => rng.pick(&[f64::INFINITY, f64::NEG_INFINITY]),
-        _ => f64::from_bits(0x7ff0_0000_0000_0001 | (rng.bits() & 0x800f_ffff_ffff_ffff)),
+        _ => nan(rng),
     }
+}
+
+/// NaNs of both kinds and signs.
+pub fn nan(rng: &mut Rng) -> f64 {
+    f64::from_bits(0x7ff0_0000_0000_0001 | (rng.bits() & 0x800f_ffff_ffff_ffff))
 }

@@ -3,6 +3,7 @@
 use crate::case::{Call, Case};
 use crate::paper;
 use oracle::Enumerator;
+use oracle::enumerate::{EnumerationScratch, ListPoint};
 use oracle::error::DecodeError;
 
 /// The nodes that the case's walk opens with a budget that suffices; `None` if more than `cap`. A case that its checks
@@ -30,10 +31,17 @@ pub fn reach(case: &Case, cap: u64) -> Option<u64> {
     }
 }
 
+/// The distances of the points that the Rust lists within the budget; none if it refuses.
+#[must_use]
+pub fn distances(case: &Case, budget: u64) -> Vec<f64> {
+    let table = Enumerator::from_table(&case.weights, &case.mu);
+    let scratch = &mut EnumerationScratch::new();
+    let list = table.list(&case.target, case.radius, budget, scratch).unwrap_or_default();
+    list.iter().map(ListPoint::distance_sq).collect()
+}
+
 /// The number of points that the Rust lists within the budget.
 #[must_use]
 pub fn points(case: &Case, budget: u64) -> usize {
-    let table = Enumerator::from_table(&case.weights, &case.mu);
-    let scratch = &mut oracle::enumerate::EnumerationScratch::new();
-    table.list(&case.target, case.radius, budget, scratch).map_or(0, |list| list.len())
+    distances(case, budget).len()
 }

@@ -5,10 +5,10 @@ use crate::reach::reach;
 use std::time::{Duration, Instant};
 
 /// Walks no longer than this are tried, so that a simpler radius does not open a ball without end.
-const LONGEST: u64 = 5_000;
+pub const LONGEST: u64 = 5_000;
 
 /// What is smallest after this time is printed.
-const TIME: Duration = Duration::from_secs(20);
+pub const TIME: Duration = Duration::from_secs(20);
 
 /// Simplest first.
 const SIMPLE: [f64; 10] = [0.0, 1.0, 0.5, -0.5, -1.0, 2.0, 0.25, 1.5, 4.0, 100.0];
@@ -16,9 +16,11 @@ const SIMPLE: [f64; 10] = [0.0, 1.0, 0.5, -0.5, -1.0, 2.0, 0.25, 1.5, 4.0, 100.0
 /// A case that `differs` and that no single change makes smaller, or as far as the time allows.
 pub fn shrink(case: &Case, differs: &dyn Fn(&Case) -> bool) -> Case {
     let end = Instant::now() + TIME;
+    let differs = &|case: &Case| affordable(case) && differs(case);
     let ample = ample(case, differs);
-    let narrow = by_steps(&ample, false, end, differs);
-    by_steps(&narrow, true, end, differs)
+    // The budget and the places wait for the dimensions.
+    let narrow = by_steps(&ample, &|case| smaller(case, false), end, differs);
+    by_steps(&narrow, &|case| smaller(case, true), end, differs)
 }
 
 /// The case with a budget and places that leave room, if it still differs: tight ones would tie it to its dimensions.
@@ -31,16 +33,16 @@ fn ample(case: &Case, differs: &dyn Fn(&Case) -> bool) -> Case {
     if differs(&wide) { wide } else { case.clone() }
 }
 
-/// Goes round the changes until none of them helps. The budget and the places wait for the dimensions.
-fn by_steps(case: &Case, budgets: bool, end: Instant, differs: &dyn Fn(&Case) -> bool) -> Case {
-    let mut smallest = case.clone();
+/// Goes round the changes, which `smaller` lists, until none of them helps.
+pub fn by_steps<T: Clone>(whole: &T, smaller: &dyn Fn(&T) -> Vec<T>, end: Instant, differs: &dyn Fn(&T) -> bool) -> T {
+    let mut smallest = whole.clone();
     let (mut place, mut failed) = (0, 0);
-    let mut list = smaller(&smallest, budgets);
+    let mut list = smaller(&smallest);
     while failed < list.len() && Instant::now() < end {
         let next = &list[place % list.len()];
-        if affordable(next) && differs(next) {
+        if differs(next) {
             smallest = next.clone();
-            list = smaller(&smallest, budgets);
+            list = smaller(&smallest);
             failed = 0;
         } else {
             place += 1;
@@ -50,12 +52,15 @@ fn by_steps(case: &Case, budgets: bool, end: Instant, differs: &dyn Fn(&Case) ->
     smallest
 }
 
-fn affordable(case: &Case) -> bool {
+/// Whether the case's walk is one that is tried.
+#[must_use]
+pub fn affordable(case: &Case) -> bool {
     case.budget <= LONGEST || reach(case, LONGEST).is_some()
 }
 
-/// Every case one step smaller.
-fn smaller(case: &Case, budgets: bool) -> Vec<Case> {
+/// Every case one step smaller; one with a smaller budget or fewer places only if `budgets` says so.
+#[must_use]
+pub fn smaller(case: &Case, budgets: bool) -> Vec<Case> {
     let n = case.weights.len();
     let mut list = Vec::new();
     if case.mu.len() == n * n && case.call.takes_table() {

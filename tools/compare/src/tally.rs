@@ -31,7 +31,9 @@ pub struct Tally {
     minus_zero: [u64; CARRYING.len()],
 }
 
-fn row(name: &str, cells: &[u64]) -> String {
+/// A row of a markdown table.
+#[must_use]
+pub fn row(name: &str, cells: &[u64]) -> String {
     let cells: String = cells.iter().map(|k| format!(" {k} |")).collect();
     format!("| {name} |{cells}\n")
 }

@@ -48,10 +48,27 @@ fn expected(point: &[i64], r: usize) -> Change {
     Ok(changed)
 }
 
+/// How many changes were made, and how they ended.
+#[derive(Default, Debug)]
+struct Tally {
+    changes: u64,
+    taken: u64,
+    refused_19: u64,
+    refused_20: u64,
+    onward_taken: u64,
+    onward_refused: u64,
+}
+
 /// All that is promised of a change to r and of a second one to s.
-fn check(point: &[i64], r: usize, s: usize) {
+fn check(tally: &mut Tally, point: &[i64], r: usize, s: usize) {
     let changed = port(point, r);
     assert_eq!(changed, expected(point, r), "{point:?} {r}");
+    tally.changes += 1;
+    match changed {
+        Ok(_) => tally.taken += 1,
+        Err((19, _)) => tally.refused_19 += 1,
+        Err(_) => tally.refused_20 += 1,
+    }
     let Ok(changed) = changed else { return };
     assert_eq!(port(&changed, r).as_deref(), Ok(point), "{point:?} {r}");
     if r != s {
@@ -59,7 +76,9 @@ fn check(point: &[i64], r: usize, s: usize) {
             p.swap(r, s);
             p
         });
-        assert_eq!(port(&changed, s).ok(), direct, "{point:?} {r} {s}");
+        let onward = port(&changed, s).ok();
+        assert_eq!(onward, direct, "{point:?} {r} {s}");
+        *if onward.is_some() { &mut tally.onward_taken } else { &mut tally.onward_refused } += 1;
     }
 }
 
@@ -81,24 +100,27 @@ const ENDS: [i64; 13] = [
 
 #[test]
 fn ends_of_i64() {
+    let tally = &mut Tally::default();
     for r in 0..4 {
         for s in 0..4 {
-            check(&[], r, s);
+            check(tally, &[], r, s);
             for a in ENDS {
-                check(&[a], r, s);
+                check(tally, &[a], r, s);
                 for b in ENDS {
-                    check(&[a, b], r, s);
+                    check(tally, &[a, b], r, s);
                     for c in ENDS {
-                        check(&[a, b, c], r, s);
+                        check(tally, &[a, b, c], r, s);
                     }
                 }
             }
         }
     }
+    println!("at the ends of i64: {tally:?}");
 }
 
 #[test]
 fn random() {
+    let tally = &mut Tally::default();
     for case in 0..400_000 {
         let mut rng = Rng::of_case(1, case);
         let length = if rng.once_in(20) { rng.below(300) } else { rng.below(24) };
@@ -108,6 +130,7 @@ fn random() {
             .collect();
         let index = |rng: &mut Rng| if rng.once_in(30) { rng.bits() as usize } else { rng.below(length + 2) };
         let (r, s) = (index(&mut rng), index(&mut rng));
-        check(&point, r, s);
+        check(tally, &point, r, s);
     }
+    println!("random: {tally:?}");
 }

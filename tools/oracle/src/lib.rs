@@ -9,7 +9,9 @@ pub use standin::{basis, error, gso, int, reduce};
 
 include!(concat!(env!("OUT_DIR"), "/root.rs"));
 
+mod job;
 mod lines;
+pub use job::{Job, job, job_text};
 pub use lines::answer;
 
 use error::DecodeError;

@@ -1,7 +1,8 @@
-//! The specification's bench cases A to L. L's budget of 2^60 + 1 is left out: the original does not have refusal 9.
+//! The specification's bench cases A to L, and its texts of jobs. L's budget of 2^60 + 1 is left out: the original does
+//! not have refusal 9.
 
 use oracle::error::DecodeError::{self, BudgetExhausted, InvalidRadius, NonFinite, OutsideRadius};
-use oracle::{Enumerator, list, nearest, nearest_ml, nearest_plane, nearest_seeded, round, rounded_away};
+use oracle::{Enumerator, job_text, list, nearest, nearest_ml, nearest_plane, nearest_seeded, round, rounded_away};
 
 const ULP: f64 = f64::EPSILON;
 const LIMIT: f64 = 4_503_599_627_370_496.0;
@@ -101,6 +102,34 @@ fn lines() {
     assert_eq!(oracle::answer(&format!("{case} two -")), "malformed budget: two");
     assert_eq!(oracle::answer("nearest_seeded 0 - - - 4010000000000000 0 -"), "found 0 0000000000000000 [ ]");
     assert_eq!(oracle::answer("nearest 0 - - - 8000000000000000 0 -"), "found 0 0000000000000000 [ ]");
+}
+
+/// The sections' counts and items.
+fn job(sections: &[&[u64]]) -> Vec<u8> {
+    let section = |items: &&[u64]| {
+        let count = u32::try_from(items.len()).unwrap().to_le_bytes();
+        [count.to_vec(), items.iter().flat_map(|item| item.to_le_bytes()).collect()].concat()
+    };
+    sections.iter().flat_map(section).collect()
+}
+
+/// The specification's texts of A, B and E.
+#[test]
+fn job_texts() {
+    let bits = f64::to_bits;
+    let a = job(&[&[], &[], &[], &[bits(4.0)], &[0]]);
+    assert_eq!(job_text(&a), "nearest 0 0000000000000000\nlist 0 1\n0000000000000000\nratio holds\n");
+    assert_eq!(job_text(&[&a[..], &[0]].concat()), "job refused 1 layout\n");
+    let b = job(&[&[bits(4.0)], &[], &[bits(0.75)], &[bits(0.25)], &[1]]);
+    let lines = "nearest 1 3FD0000000000000 1\nlist 1 1\n3FD0000000000000 1\n";
+    assert_eq!(job_text(&b), format!("{lines}ratio open\n"));
+    let set = |settings: &[u64]| job_text(&[&b[..], &job(&[settings])].concat());
+    assert_eq!(set(&[1, 1, 1]), format!("{lines}ratio holds\n"));
+    for settings in [[2, 3, 256], [3, 0, 256], [3, 1, 0], [3, 1, 257]] {
+        assert_eq!(set(&settings), "job refused 21 layout\n");
+    }
+    let e = job(&[&[bits(1.0)], &[], &[bits(0.5)], &[bits(1.0)], &[2], &[1000, 1, 1]]);
+    assert_eq!(job_text(&e), "nearest 2 3FD0000000000000 0\nlist refused 18 search\nratio none\n");
 }
 
 /// The original gives a radius of minus zero back, and its lines say so: targets of a half and of 1, candidate [0].

@@ -1,6 +1,5 @@
 -- `checks::list_check` meets its contract: the table first, since the places are multiplied by n once it has passed. Assumes nothing.
 use mathlib.Core.Path.{sym, ap, _∙_}
-use mathlib.Core.List.{[], _∷_}
 use native.Mathlib.Omega.{arith}
 use Rattle.definitions.specs.Table.{table}
 use Rattle.definitions.specs.Checks.{tableChecks}

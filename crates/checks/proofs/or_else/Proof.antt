@@ -3,7 +3,7 @@ use mathlib.Core.Path.{refl, _∙_}
 use mathlib.Core.List.{[], _∷_}
 use Rattle.refusals.specs.Numbers.{verdict}
 use borrow.Author.Needs.{needs}
-use Rattle.checks.proofs.Sequence.{alone, joined, refused, passed}
+use Rattle.checks.proofs.Sequence.{alone, refused, passed}
 use Rattle.checks.proofs.or_else.Statement.{statement}
 use Rattle.checks.proofs.or_else.Tie as tie
 

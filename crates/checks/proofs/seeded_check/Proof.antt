@@ -9,9 +9,9 @@ use lib.Ieee.{Float}
 use Rattle.definitions.specs.Table.{Table, table, dimension}
 use Rattle.definitions.specs.Distance.{distance}
 use Rattle.definitions.specs.Seeds.{widened}
-use Rattle.definitions.specs.Checks.{Verdict, firstRefusal, radiusCheck, handedOn, budgetCheck, candidateLengthCheck, candidateDistanceCheck, candidateOutsideCheck, widenedRadiusCheck}
-use Rattle.definitions.specs.Calls.{searchChecks, checksOfNearest, checksOfSeeded}
-use Rattle.definitions.proofs.Passed.{candidate-shaped, table-small}
+use Rattle.definitions.specs.Checks.{Verdict, firstRefusal, handedOn, candidateLengthCheck, candidateDistanceCheck, candidateOutsideCheck, widenedRadiusCheck}
+use Rattle.definitions.specs.Calls.{checksOfNearest, checksOfSeeded}
+use Rattle.definitions.proofs.Passed.{candidate-shaped}
 use Rattle.refusals.specs.Numbers.{verdict}
 use borrow.Author.Needs.{needs}
 use Rattle.checks.proofs.Sequence.{alone, joined, refused, passed}

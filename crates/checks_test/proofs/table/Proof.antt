@@ -1,7 +1,6 @@
 -- `table` lends as much of its arrays as there are weights. Assumes nothing.
 use mathlib.Core.Path.{sym}
 use native.Mathlib.Omega.{arith}
-use lib.ListN.{length}
 use lib.Seq.{length-take-le}
 use borrow.Author.Needs.{needs}
 use Rattle.checks_test.proofs.table.Statement.{statement}

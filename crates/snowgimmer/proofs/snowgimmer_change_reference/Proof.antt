@@ -1,11 +1,10 @@
 -- `snowgimmer_change_reference` meets its contract: it tells what the verdict of `change_reference` does, and promises what the theorems say of it. Assumes nothing.
 use mathlib.Core.Path.{ap, sym, _∙_, subst}
-use mathlib.Core.List.{List}
-use lib.IntN.{ℤ}
 use Rattle.definitions.specs.Reference.{changeReference}
 use Rattle.theorems.specs.Reference.{ReferencePromises}
 use Rattle.theorems.proofs.References.{reference-promises}
 use Rattle.snowgimmer.specs.Reports.{ofVerdict}
+use Rattle.snowgimmer.proofs.ToldAs.{verdict-told}
 use borrow.Author.Needs.{needs}
 use Rattle.snowgimmer.proofs.snowgimmer_change_reference.Statement.{statement}
 use Rattle.snowgimmer.proofs.snowgimmer_change_reference.Tie as tie
@@ -17,8 +16,10 @@ returns c =
     let integers = at .before .before in
     let a = integers .before .before .args in
     let answered = at .change-reference .ensures in
+    let tells = c .stored .ensures ∙ reported .verdict-report .ensures ∙ ap ofVerdict (answered .tells) in
     record {
-      tells = c .stored .ensures ∙ reported .verdict-report .ensures ∙ ap ofVerdict (answered .tells);
+      tells = tells;
+      told-as = verdict-told tells;
       writes = answered .writes;
       promises = subst (ReferencePromises (a .point .now) (a .r) (changeReference (a .point .now) (a .r))) (sym (answered .writes)) (reference-promises (a .point .now) (a .r) (integers .read-integers .ensures));
     }

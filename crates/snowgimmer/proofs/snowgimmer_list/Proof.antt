@@ -1,5 +1,5 @@
 -- `snowgimmer_list` meets its contract: it tells what the answer of `list` does, and promises what the theorems say of it. Assumes nothing.
-use mathlib.Core.Path.{ap, _∙_}
+use mathlib.Core.Path.{refl, ap, _∙_}
 use Rattle.rounding.proofs.Interface.{held}
 use Rattle.lists.proofs.Tuples.{sixth}
 use Rattle.definitions.specs.Table.{table}
@@ -7,8 +7,10 @@ use Rattle.definitions.specs.Calls as C
 use Rattle.theorems.specs.Promises.{ListPromises}
 use Rattle.theorems.proofs.Checked.{doubles-in}
 use Rattle.theorems.proofs.Promises.{list-promises}
+use Rattle.listing.specs.View.{countsOf}
 use Rattle.snowgimmer.specs.Reports.{ofCounts}
 use Rattle.snowgimmer.proofs.Slices.{held-in}
+use Rattle.snowgimmer.proofs.ToldAs.{answer-told}
 use borrow.Author.Needs.{needs}
 use Rattle.snowgimmer.proofs.snowgimmer_list.Statement.{statement}
 use Rattle.snowgimmer.proofs.snowgimmer_list.Tie as tie
@@ -25,8 +27,10 @@ returns c =
     let answered = at .list .ensures in
     let doubles = doubles-in t (a .target .now) (known .before .before .shared-slice-known .given) (known .before .shared-slice-known2 .given) (known .shared-slice-known3 .given) in
     let promised = list-promises t (a .target .now) (a .distances .now) (a .points .now) (a .radius) (a .budget) doubles (held (sixth (s .good) .1)) in
+    let tells = c .stored .ensures ∙ reported .list-report .ensures ∙ ap ofCounts (answered .tells) in
     record {
-      tells = c .stored .ensures ∙ reported .list-report .ensures ∙ ap ofCounts (answered .tells);
+      tells = tells;
+      told-as = answer-told (λ x. ofCounts (countsOf x)) tells (λ x. refl) (λ e. refl);
       writes-distances = answered .writes-distances;
       writes-points = answered .writes-points;
       promises = held-in (ListPromises t (a .target .now) (a .distances .now) (a .points .now) (a .radius) (a .budget) answer) (answered .writes-distances) (answered .writes-points) promised;

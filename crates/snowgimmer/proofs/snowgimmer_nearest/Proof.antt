@@ -1,5 +1,5 @@
 -- `snowgimmer_nearest` meets its contract: it tells what the answer of `nearest` does, and promises what the theorems say of it. Assumes nothing.
-use mathlib.Core.Path.{ap, sym, _∙_, subst}
+use mathlib.Core.Path.{refl, ap, sym, _∙_, subst}
 use mathlib.Core.List.{List}
 use lib.IntN.{ℤ}
 use Rattle.rounding.proofs.Interface.{held}
@@ -11,6 +11,7 @@ use Rattle.theorems.proofs.Checked.{doubles-in}
 use Rattle.theorems.proofs.Promises.{nearest-promises}
 use Rattle.snowgimmer.specs.Reports.{ofNearest}
 use Rattle.snowgimmer.proofs.DistanceAgrees.{distance-agrees}
+use Rattle.snowgimmer.proofs.ToldAs.{answer-told}
 use borrow.Author.Needs.{needs}
 use Rattle.snowgimmer.proofs.snowgimmer_nearest.Statement.{statement}
 use Rattle.snowgimmer.proofs.snowgimmer_nearest.Tie as tie
@@ -26,8 +27,10 @@ returns c =
     let answered = at .nearest .ensures in
     let doubles = doubles-in t (a .target .now) (known .before .before .shared-slice-known .given) (known .before .shared-slice-known2 .given) (known .shared-slice-known3 .given) in
     let promises = subst (λ (o : List ℤ). NearestPromises t (a .target .now) (a .out .now) (a .radius) (a .budget) (C.nearest t (a .target .now) (a .out .now) (a .radius) (a .budget)) o) (sym (answered .writes)) (nearest-promises t (a .target .now) (a .out .now) (a .radius) (a .budget) doubles (held (fifth (s .good) .1))) in
+    let tells = c .stored .ensures ∙ reported .nearest-report .ensures _ ∙ ap ofNearest (answered .tells) in
     record {
-      tells = c .stored .ensures ∙ reported .nearest-report .ensures _ ∙ ap ofNearest (answered .tells);
+      tells = tells;
+      told-as = answer-told ofNearest tells (λ x. refl) (λ e. refl);
       writes = answered .writes;
       promises = promises;
       distance-agrees = distance-agrees _ (promises .search);

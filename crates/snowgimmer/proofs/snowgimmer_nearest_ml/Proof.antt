@@ -1,5 +1,5 @@
 -- `snowgimmer_nearest_ml` meets its contract: it tells what the answer of `nearest_ml` does, and promises what the theorems say of it. Assumes nothing.
-use mathlib.Core.Path.{ap, sym, _∙_, subst}
+use mathlib.Core.Path.{refl, ap, sym, _∙_, subst}
 use mathlib.Core.List.{List}
 use lib.IntN.{ℤ}
 use Rattle.definitions.specs.Table.{table}
@@ -9,6 +9,7 @@ use Rattle.theorems.proofs.Checked.{doubles-in}
 use Rattle.theorems.proofs.Promises.{ml-promises}
 use Rattle.snowgimmer.specs.Reports.{ofNearest}
 use Rattle.snowgimmer.proofs.DistanceAgrees.{distance-agrees}
+use Rattle.snowgimmer.proofs.ToldAs.{answer-told}
 use borrow.Author.Needs.{needs}
 use Rattle.snowgimmer.proofs.snowgimmer_nearest_ml.Statement.{statement}
 use Rattle.snowgimmer.proofs.snowgimmer_nearest_ml.Tie as tie
@@ -24,8 +25,10 @@ returns c =
     let answered = at .nearest-ml .ensures in
     let doubles = doubles-in t (a .target .now) (known .before .before .shared-slice-known .given) (known .before .shared-slice-known2 .given) (known .shared-slice-known3 .given) in
     let promises = subst (λ (o : List ℤ). MlPromises t (a .target .now) (a .out .now) (a .budget) (C.nearestMl t (a .target .now) (a .out .now) (a .budget)) o) (sym (answered .writes)) (ml-promises t (a .target .now) (a .out .now) (a .budget) doubles) in
+    let tells = c .stored .ensures ∙ reported .nearest-report .ensures _ ∙ ap ofNearest (answered .tells) in
     record {
-      tells = c .stored .ensures ∙ reported .nearest-report .ensures _ ∙ ap ofNearest (answered .tells);
+      tells = tells;
+      told-as = answer-told ofNearest tells (λ x. refl) (λ e. refl);
       writes = answered .writes;
       promises = promises;
       distance-agrees = distance-agrees _ (promises .search);

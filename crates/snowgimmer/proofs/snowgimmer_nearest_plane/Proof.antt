@@ -6,6 +6,7 @@ use Rattle.theorems.specs.Promises.{PlanePromises}
 use Rattle.theorems.proofs.Promises.{plane-promises}
 use Rattle.snowgimmer.specs.Reports.{ofVerdict}
 use Rattle.snowgimmer.proofs.Slices.{held-in}
+use Rattle.snowgimmer.proofs.ToldAs.{verdict-told}
 use borrow.Author.Needs.{needs}
 use Rattle.snowgimmer.proofs.snowgimmer_nearest_plane.Statement.{statement}
 use Rattle.snowgimmer.proofs.snowgimmer_nearest_plane.Tie as tie
@@ -18,8 +19,10 @@ returns c =
     let t = table (a .weights .now) (a .mu .now) in
     let verdict = C.plane t (a .coefficients .now) (a .out .now) in
     let answered = at .nearest-plane .ensures in
+    let tells = c .stored .ensures ∙ reported .verdict-report .ensures ∙ ap ofVerdict (answered .tells) in
     record {
-      tells = c .stored .ensures ∙ reported .verdict-report .ensures ∙ ap ofVerdict (answered .tells);
+      tells = tells;
+      told-as = verdict-told tells;
       writes = answered .writes;
       leaves = answered .leaves;
       promises = held-in (PlanePromises t (a .coefficients .now) (a .out .now) verdict) (answered .leaves) (answered .writes) (plane-promises t (a .coefficients .now) (a .out .now));

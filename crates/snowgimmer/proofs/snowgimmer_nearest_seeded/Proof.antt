@@ -1,5 +1,5 @@
 -- `snowgimmer_nearest_seeded` meets its contract: it tells what the answer of `nearest_seeded` does, and promises what the theorems say of it. Assumes nothing.
-use mathlib.Core.Path.{ap, sym, _∙_, subst}
+use mathlib.Core.Path.{refl, ap, sym, _∙_, subst}
 use mathlib.Core.List.{List}
 use lib.IntN.{ℤ}
 use Rattle.rounding.proofs.Interface.{held}
@@ -11,6 +11,7 @@ use Rattle.theorems.proofs.Checked.{doubles-in}
 use Rattle.theorems.proofs.Promises.{seeded-promises}
 use Rattle.snowgimmer.specs.Reports.{ofNearest}
 use Rattle.snowgimmer.proofs.DistanceAgrees.{distance-agrees}
+use Rattle.snowgimmer.proofs.ToldAs.{answer-told}
 use borrow.Author.Needs.{needs}
 use Rattle.snowgimmer.proofs.snowgimmer_nearest_seeded.Statement.{statement}
 use Rattle.snowgimmer.proofs.snowgimmer_nearest_seeded.Tie as tie
@@ -27,8 +28,10 @@ returns c =
     let answered = at .nearest-seeded .ensures in
     let doubles = doubles-in t (a .target .now) (known .before .before .shared-slice-known .given) (known .before .shared-slice-known2 .given) (known .shared-slice-known3 .given) in
     let promises = subst (λ (o : List ℤ). SeededPromises t (a .target .now) (a .out .now) (a .candidate .now) (a .radius) (a .budget) (C.nearestSeeded t (a .target .now) (a .out .now) (a .candidate .now) (a .radius) (a .budget)) o) (sym (answered .writes)) (seeded-promises t (a .target .now) (a .out .now) (a .candidate .now) (a .radius) (a .budget) doubles (held (sixth (s .good) .1)) (integers .read-integers .ensures)) in
+    let tells = c .stored .ensures ∙ reported .nearest-report .ensures _ ∙ ap ofNearest (answered .tells) in
     record {
-      tells = c .stored .ensures ∙ reported .nearest-report .ensures _ ∙ ap ofNearest (answered .tells);
+      tells = tells;
+      told-as = answer-told ofNearest tells (λ x. refl) (λ e. refl);
       writes = answered .writes;
       promises = promises;
       distance-agrees = distance-agrees _ (promises .search);

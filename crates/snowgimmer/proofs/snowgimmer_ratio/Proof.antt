@@ -21,7 +21,7 @@ returns c =
       tells = told;
       promises = promised;
       numbers = λ p q t target lent points budget doubles same.
-          let means = promised .of-list p q t target lent points budget doubles same in
+          let means = promised .of-list p q t target lent points budget doubles same .means in
           record {
             none = verdict-told told (promised .refuses) none (means none);
             holds = verdict-told told (promised .refuses) holds (means holds);

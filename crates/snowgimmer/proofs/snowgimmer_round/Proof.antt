@@ -6,6 +6,7 @@ use Rattle.definitions.specs.Calls as C
 use Rattle.theorems.specs.Promises.{RoundPromises}
 use Rattle.theorems.proofs.Promises.{round-promises}
 use Rattle.snowgimmer.specs.Reports.{ofVerdict}
+use Rattle.snowgimmer.proofs.ToldAs.{verdict-told}
 use borrow.Author.Needs.{needs}
 use Rattle.snowgimmer.proofs.snowgimmer_round.Statement.{statement}
 use Rattle.snowgimmer.proofs.snowgimmer_round.Tie as tie
@@ -16,8 +17,10 @@ returns c =
     let at = reported .before .before in
     let a = at .before .before .before .args in
     let answered = at .round .ensures in
+    let tells = c .stored .ensures ∙ reported .verdict-report .ensures ∙ ap ofVerdict (answered .tells) in
     record {
-      tells = c .stored .ensures ∙ reported .verdict-report .ensures ∙ ap ofVerdict (answered .tells);
+      tells = tells;
+      told-as = verdict-told tells;
       writes = answered .writes;
       promises = subst (λ (o : List ℤ). RoundPromises (a .coefficients .now) (a .out .now) (C.round (a .coefficients .now) (a .out .now)) o) (sym (answered .writes)) (round-promises (a .coefficients .now) (a .out .now));
     }

@@ -1,4 +1,7 @@
 //! The port's speed beside the Rust's: the same inputs, in turns, in one run. Prints a markdown table.
+//!
+//! `speed SIDE N PASSES` calls one side alone, `rust` or `port`, so often on the first input of `nearest_ml` at n = N, and
+//! prints the nodes: for a program that counts instructions, by the difference of two runs.
 
 use compare::case::{Call, Case};
 use compare::rng::Rng;
@@ -154,7 +157,33 @@ fn time_list(n: usize, points: usize, places: usize) {
     print(&format!("list, n = {n}, µs a call"), inputs.len(), &size, calls as f64 * 1e3, times);
 }
 
+// ---- one side alone
+
+fn passes(side: &str, n: usize, passes: u64) -> u64 {
+    let (input, scratch, mut out) = (input(Call::Ml, n, 0), &mut EnumerationScratch::new(), vec![0; n]);
+    let mut pass = || match side {
+        "rust" => rust_ml(&input, &mut out, scratch),
+        _ => port::nearest_ml(&input.case, &mut out).first,
+    };
+    (0..passes).map(|_| black_box(pass())).sum()
+}
+
 fn main() {
+    let words: Vec<String> = std::env::args().skip(1).collect();
+    let word = |k: usize| words.get(k).map_or("", String::as_str);
+    match (word(0), word(1).parse(), word(2).parse()) {
+        (side @ ("rust" | "port"), Ok(n @ 2..=23), Ok(count)) if words.len() == 3 => {
+            println!("{} nodes", passes(side, n, count));
+        }
+        ("", ..) => table(),
+        _ => {
+            eprintln!("speed, or speed rust|port N PASSES with N from 2 to 23");
+            std::process::exit(2);
+        }
+    }
+}
+
+fn table() {
     println!("| call | inputs | size | Rust, best | port, best | ratio | Rust, median | port, median | ratio |");
     println!("|---|---:|---|---:|---:|---:|---:|---:|---:|");
     for n in [8, 12, 16, 20, 23] {

@@ -1,5 +1,5 @@
 -- `read_integers` meets its contract: each integer passed has 64 bits. Assumes nothing.
-use Prim.Native.Nat.{ℕ, zero, suc, _≤_, _<_, _-_}
+use Prim.Native.Nat.{ℕ, suc, _≤_, _<_, _-_}
 use mathlib.Core.List.{List, [], _∷_}
 use native.Mathlib.Omega.{arith}
 use lib.Dec.{T, lt→ltb}
