@@ -59,8 +59,8 @@
  *
  * A BUDGET is the number of nodes that a search may try, up to 2^60. A search with more to try ends with 15.
  *
- * POINTERS. Each is aligned and not null, also where its length is 0, and what a function writes overlaps nothing else
- * that it is passed. Nothing is allocated and nothing is kept between calls, so calls may run side by side. The
+ * POINTERS. Each is aligned and not null, also where its length is 0, and there are as many elements as its length says,
+ * also where the call refuses that length. What a function writes overlaps nothing else that it is passed. Nothing is allocated and nothing is kept between calls, so calls may run side by side. The
  * floating-point unit rounds to nearest and keeps subnormal numbers, as a C program starts.
  */
 #ifndef SNOWGIMMER_H
