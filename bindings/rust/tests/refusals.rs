@@ -254,7 +254,7 @@ fn told_in_words() {
     );
     told(
         Refusal::ListFull { points: 5 },
-        "refused 18: the list has 5 points: lend as many places, or lower the radius",
+        "refused 18: the list has 5 points: lend as many places, 4096 at most, or lower the radius",
     );
     told(
         Refusal::ReferenceIndex,
