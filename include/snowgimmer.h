@@ -51,17 +51,23 @@
  *   19 ReferenceIndex                                             r is not below the point's length
  *   20 ChangedRange         its index                             a coordinate becomes no int64_t
  *   21 SettingRange         its index                             0: p is not from 1 to 1000, or below q; 1: q is 0
+ *   22 MatrixRange          its index                             an element is above 2^52 in magnitude, the inverse's
+ *                                                                 counted from n*n on; also 0: one is not n*n long
+ *   23 NotInverse                                                 transform and inverse are not inverse to each other
+ *   24 MappedRange          its column                            a coordinate of the mapped point is no int64_t
  *
- * The first number that fits is the answer. A refusal leaves every slice that it is lent as it was.
+ * The first number that fits is the answer; snowgimmer_prepared_nearest_ml alone has another order, which it says. A
+ * refusal leaves every slice that it is lent as it was.
  *
  * A RADIUS of minus zero, as a computed one may be, counts as 0: the answer is that at 0, and after a refusal real is
  * never minus zero. Before 0.5.0 it came back in 12, 15 and 16.
  *
  * A BUDGET is the number of nodes that a search may try, up to 2^60. A search with more to try ends with 15.
  *
- * POINTERS. Each is aligned and not null, also where its length is 0, and there are as many elements as its length says,
- * also where the call refuses that length. What a function writes overlaps nothing else that it is passed. Nothing is allocated and nothing is kept between calls, so calls may run side by side. The
- * floating-point unit rounds to nearest and keeps subnormal numbers, as a C program starts.
+ * POINTERS. Each is aligned and not null, also where its length is 0, and there are as many elements as its length
+ * says, also where the call refuses that length. What a function writes overlaps nothing else that it is passed. Nothing
+ * is allocated and nothing is kept between calls, so calls may run side by side. The floating-point unit rounds to
+ * nearest and keeps subnormal numbers, as a C program starts.
  */
 #ifndef SNOWGIMMER_H
 #define SNOWGIMMER_H
@@ -70,9 +76,9 @@
 #include <stdint.h>
 
 #define SNOWGIMMER_VERSION_MAJOR 0
-#define SNOWGIMMER_VERSION_MINOR 8
-#define SNOWGIMMER_VERSION_PATCH 1
-#define SNOWGIMMER_VERSION "0.8.1"
+#define SNOWGIMMER_VERSION_MINOR 9
+#define SNOWGIMMER_VERSION_PATCH 0
+#define SNOWGIMMER_VERSION "0.9.0"
 
 /* The largest n. */
 #define SNOWGIMMER_LARGEST_DIMENSION 23
@@ -82,7 +88,7 @@
 #define SNOWGIMMER_LARGEST_BUDGET ((uint64_t)1 << 60)
 /* The largest p and q of a ratio. */
 #define SNOWGIMMER_LARGEST_FACTOR 1000
-/* The largest magnitude of an entry of mu and of a target, 2^52. */
+/* The largest magnitude of an entry of mu, of a target and of an element of transform and inverse, 2^52. */
 #define SNOWGIMMER_COORD_LIMIT 4503599627370496.0
 
 #ifdef __cplusplus
@@ -110,7 +116,10 @@ enum snowgimmer_refusal {
     SNOWGIMMER_LIST_FULL = 18,
     SNOWGIMMER_REFERENCE_INDEX = 19,
     SNOWGIMMER_CHANGED_RANGE = 20,
-    SNOWGIMMER_SETTING_RANGE = 21
+    SNOWGIMMER_SETTING_RANGE = 21,
+    SNOWGIMMER_MATRIX_RANGE = 22,
+    SNOWGIMMER_NOT_INVERSE = 23,
+    SNOWGIMMER_MAPPED_RANGE = 24
 };
 
 /* The name of an answer as in the table above, "Success" of 0, and "Unknown" of a number that is not there. */
@@ -136,6 +145,9 @@ static inline const char *snowgimmer_refusal_name(uint32_t number) {
     case SNOWGIMMER_REFERENCE_INDEX: return "ReferenceIndex";
     case SNOWGIMMER_CHANGED_RANGE: return "ChangedRange";
     case SNOWGIMMER_SETTING_RANGE: return "SettingRange";
+    case SNOWGIMMER_MATRIX_RANGE: return "MatrixRange";
+    case SNOWGIMMER_NOT_INVERSE: return "NotInverse";
+    case SNOWGIMMER_MAPPED_RANGE: return "MappedRange";
     default: return "Unknown";
     }
 }
@@ -186,6 +198,37 @@ uint32_t snowgimmer_nearest_seeded(const double *weights, size_t weights_len, co
 uint32_t snowgimmer_nearest_ml(const double *weights, size_t weights_len, const double *mu, size_t mu_len,
     const double *target, size_t target_len, int64_t *out, size_t out_len, uint64_t budget, uint64_t *first,
     uint64_t *second, double *real);
+
+/* The nearest integer vector to a target in the receiver's coordinates, by a table of reduced (decorrelated) ones.
+ * transform and inverse are n*n integers each, ROW BY ROW. transform maps reduced coordinates to the receiver's, and
+ * inverse maps them back:
+ *
+ *     receiver[column] = sum over rows of  reduced[row] * transform[row*n+column]
+ *     reduced[column]  = sum over rows of  receiver[row] * inverse[row*n+column]
+ *
+ * For float ambiguities a with the covariance matrix Q and the Z-transform z = Z'a, inverse is Z, transform Z^-1, and
+ * the table is that of the covariance matrix Z'QZ. For a lattice basis with the rows B, reduced to U*B, transform is U,
+ * inverse is U^-1, and the table is that of U*B. target is a as it is, and out gets the fixed ambiguities in the same
+ * coordinates, as examples/receiver_coordinates.c shows.
+ *
+ * The transformed target is computed in doubles: for each column the sum over the rows, from row 0 on, of the row's
+ * target times inverse[row*n+column], starting at +0; each product and each sum is rounded. The search is that of
+ * snowgimmer_nearest_ml from the transformed target, and its point is mapped by transform to out, in whole numbers and
+ * so exactly. first is the number of nodes, and real the point's computed distance before mapping. THE DISTANCE IS THAT
+ * IN THE TABLE'S COORDINATES, from the transformed target, and "nearest" is by it: no vector of reduced coordinates has
+ * a smaller one than the vector that was mapped, and inverse maps out back to that vector.
+ *
+ * WARNING. Two matrices that are both transposed, as those stored column by column are, or that are exchanged with each
+ * other, are still inverse to each other. No check can tell: the call succeeds, with another point.
+ *
+ * Refused, in this order: 2 to 5; 22; 23, if either product of the matrices, in whole numbers, is not the identity; 6;
+ * 7, with the index in the given target or, where that is sound, the column of the transformed one; 9, 11, 13, 15; 24.
+ * Once the checks have passed it ends with a point, with 15 or with 24, and not with 15 if the budget is at least the
+ * number of nodes that snowgimmer_list takes from the transformed target at the widened radius. Beside the search it
+ * makes the two products of the matrices, 2*n^3 multiplications. Stack: 60 kB. Since 0.9.0. */
+uint32_t snowgimmer_prepared_nearest_ml(const double *weights, size_t weights_len, const double *mu, size_t mu_len,
+    const int64_t *transform, size_t transform_len, const int64_t *inverse, size_t inverse_len, const double *target,
+    size_t target_len, int64_t *out, size_t out_len, uint64_t budget, uint64_t *first, uint64_t *second, double *real);
 
 /* Lists every integer vector admitted at the radius, by distance and then coordinates: the distances go to distances,
  * at most 4096, and n coordinates for each to points, which is n times as long. first is the number of nodes, second

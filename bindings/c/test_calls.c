@@ -137,6 +137,152 @@ static void candidate_at_the_radius(void) {
     }
 }
 
+/* A search in the receiver's coordinates over two weights of 1, but for its output. */
+struct prepared {
+    double entry; /* mu[2] */
+    int64_t transform[5], inverse[5];
+    size_t transform_len, inverse_len;
+    double target[N + 1];
+    size_t target_len;
+    uint64_t budget;
+};
+
+/* Case G: the transformed target is 0.25, 0.5, and the nearest vector there is 0, 1. */
+static const struct prepared case_g = {0.5, {1, 2, 1, 3}, {3, -2, -1, 1}, 4, 4, {0.75, 2.0}, 2, 100};
+
+/* The call, whose output of so many places holds these numbers then. */
+static void expect_prepared(const char *what, struct prepared p, size_t places, uint32_t expected, uint64_t one,
+    uint64_t two, double three, int64_t z0, int64_t z1) {
+    const double entries[N * N] = {NAN, NAN, p.entry, NAN};
+    const struct prepared given = p;
+    int64_t out[N + 1] = {7, 8, 9};
+    first = second = 77;
+    real = 77.0;
+    uint32_t number = snowgimmer_prepared_nearest_ml(weights, N, entries, N * N, p.transform, p.transform_len,
+        p.inverse, p.inverse_len, p.target, p.target_len, out, places, p.budget, &first, &second, &real);
+    expect(what, number, expected, one, two, three);
+    expect_point(what, out, z0, z1);
+    expect_true(what, out[2] == 9 && memcmp(&given, &p, sizeof p) == 0);
+}
+
+/* The call is refused, and its output is as it was. */
+static void refuse_prepared(const char *what, struct prepared p, uint32_t expected, uint64_t one, uint64_t two,
+    double three) {
+    expect_prepared(what, p, N, expected, one, two, three, 7, 8);
+}
+
+/* 22 and 23. */
+static void matrices(void) {
+    const int64_t most = (int64_t)1 << 52;
+    struct prepared p = case_g;
+    p.transform_len = 3;
+    refuse_prepared("transform too short", p, SNOWGIMMER_MATRIX_RANGE, 0, 0, 0.0);
+    p = case_g;
+    p.inverse_len = 5;
+    p.transform[3] = INT64_MIN;
+    refuse_prepared("inverse too long", p, SNOWGIMMER_MATRIX_RANGE, 0, 0, 0.0);
+    for (size_t k = 0; k < N * N; k++) {
+        p = case_g;
+        p.transform[k] = most + 1;
+        p.inverse[0] = INT64_MIN;
+        refuse_prepared("an element of transform", p, SNOWGIMMER_MATRIX_RANGE, k, 0, 0.0);
+        p = case_g;
+        p.inverse[k] = -most - 1;
+        refuse_prepared("an element of inverse", p, SNOWGIMMER_MATRIX_RANGE, N * N + k, 0, 0.0);
+        p = case_g;
+        p.inverse[k]++;
+        refuse_prepared("not inverse", p, SNOWGIMMER_NOT_INVERSE, 0, 0, 0.0);
+    }
+    const struct prepared largest = {0.5, {1, most, 0, 1}, {1, -most, 0, 1}, 4, 4, {1.0, 0.0}, 2, 100};
+    expect_prepared("elements of 2^52", largest, N, SNOWGIMMER_SUCCESS, 2, 0, 0.0, 1, 0);
+    /* the product is 2^64 + 1, not 1 */
+    const int64_t a = 274177, b = INT64_C(67280421310721);
+    int64_t out = 7;
+    uint32_t number = snowgimmer_prepared_nearest_ml(weights, 1, mu, 1, &a, 1, &b, 1, target, 1, &out, 1, 9, &first,
+        &second, &real);
+    expect("a product modulo 2^64", number, SNOWGIMMER_NOT_INVERSE, 0, 0, 0.0);
+    expect_true("a product modulo 2^64", out == 7);
+}
+
+/* 6, 7 of either target, 9 and 15. */
+static void prepared_calls(void) {
+    struct prepared p = case_g;
+    p.target_len = 3;
+    refuse_prepared("target's length", p, SNOWGIMMER_LENGTH_MISMATCH, 2, 3, 0.0);
+    expect_prepared("output's length", case_g, 3, SNOWGIMMER_LENGTH_MISMATCH, 2, 3, 0.0, 7, 8);
+    p.transform[0] = 2;
+    refuse_prepared("23 before 6", p, SNOWGIMMER_NOT_INVERSE, 0, 0, 0.0);
+    p = case_g;
+    p.target[1] = HUGE_VAL;
+    refuse_prepared("target", p, SNOWGIMMER_NON_FINITE, 1, 0, 0.0);
+    p.target[0] = SNOWGIMMER_COORD_LIMIT;
+    p.target[1] = 0.0;
+    p.budget = SNOWGIMMER_LARGEST_BUDGET + 1;
+    refuse_prepared("transformed target", p, SNOWGIMMER_NON_FINITE, 0, 0, 0.0);
+    const double limit = SNOWGIMMER_COORD_LIMIT;
+    const struct prepared sum = {0.5, {1, -1, 0, 1}, {1, 1, 0, 1}, 4, 4, {limit, 1.0}, 2, 100};
+    refuse_prepared("column 1 of the transformed target", sum, SNOWGIMMER_NON_FINITE, 1, 0, 0.0);
+    p = case_g;
+    p.budget = SNOWGIMMER_LARGEST_BUDGET + 1;
+    refuse_prepared("budget", p, SNOWGIMMER_BUDGET_RANGE, p.budget, 0, 0.0);
+    p.budget = 2;
+    refuse_prepared("budget of 2", p, SNOWGIMMER_BUDGET_EXHAUSTED, 2, 0, 0.25);
+    p.budget = 0;
+    refuse_prepared("budget of 0", p, SNOWGIMMER_BUDGET_EXHAUSTED, 0, 0, 0.25 + 8 * DBL_EPSILON);
+}
+
+/* 11 with five levels, 13 with four; the matrices exchange the coordinates in a cycle. */
+static void prepared_overflow(size_t n, uint32_t expected) {
+    double most[MOST_LEVELS], halves[MOST_LEVELS], entries[MOST_LEVELS * MOST_LEVELS] = {0.0};
+    int64_t forth[MOST_LEVELS * MOST_LEVELS] = {0}, back[MOST_LEVELS * MOST_LEVELS] = {0}, out[MOST_LEVELS] = {0};
+    for (size_t i = 0; i < n; i++) {
+        most[i] = DBL_MAX;
+        halves[i] = 0.5;
+        forth[i * n + (i + 1) % n] = back[(i + 1) % n * n + i] = 1;
+    }
+    uint32_t number = snowgimmer_prepared_nearest_ml(most, n, entries, n * n, forth, n * n, back, n * n, halves, n, out,
+        n, 100, &first, &second, &real);
+    expect("distance or radius overflows", number, expected, 0, 0, HUGE_VAL);
+}
+
+/* The nearest vector is 2^50, 0 before mapping: -2^63 is mapped, 2^63 is not. */
+static void mapped(void) {
+    const double limit = SNOWGIMMER_COORD_LIMIT;
+    const int64_t far = (int64_t)1 << 50;
+    struct prepared p = {limit, {1, 8191, 0, 1}, {1, -8191, 0, 1}, 4, 4, {0.0, 0.25}, 2, 100};
+    expect_prepared("below 2^63", p, N, SNOWGIMMER_SUCCESS, 2, 0, 0.0625, far, far * 8191);
+    p.transform[1] = -8192;
+    p.inverse[1] = 8192;
+    expect_prepared("-2^63", p, N, SNOWGIMMER_SUCCESS, 2, 0, 0.0625, far, INT64_MIN);
+    p.transform[1] = 8192;
+    p.inverse[1] = -8192;
+    refuse_prepared("2^63", p, SNOWGIMMER_MAPPED_RANGE, 1, 0, 0.0);
+    p.budget = 1;
+    refuse_prepared("15 before 24", p, SNOWGIMMER_BUDGET_EXHAUSTED, 1, 0, 0.0625 + 8 * DBL_EPSILON);
+    const struct prepared column_0 = {limit, {8192, 1, 1, 0}, {0, 1, 1, -8192}, 4, 4, {0.25, 0.0}, 2, 100};
+    refuse_prepared("2^63 in column 0", column_0, SNOWGIMMER_MAPPED_RANGE, 0, 0, 0.0);
+}
+
+static void receiver_coordinates(void) {
+    expect_prepared("prepared", case_g, N, SNOWGIMMER_SUCCESS, 3, 0, 0.25, 1, 3);
+    /* both transposed, they are inverse to each other too: -1.75, 1.25 is the transformed target, -2, 1 its point */
+    const struct prepared transposed = {0.5, {1, 1, 2, 3}, {3, -1, -2, 1}, 4, 4, {0.75, 2.0}, 2, 100};
+    expect_prepared("transposed", transposed, N, SNOWGIMMER_SUCCESS, 2, 0, 0.203125, 0, 1);
+    matrices();
+    prepared_calls();
+    prepared_overflow(5, SNOWGIMMER_CANDIDATE_DISTANCE);
+    prepared_overflow(4, SNOWGIMMER_WIDENED_RADIUS);
+    mapped();
+    int64_t out = 7;
+    uint32_t number = snowgimmer_prepared_nearest_ml(weights, 0, mu, 0, points, 0, points, 0, target, 0, &out, 0, 0,
+        &first, &second, &real);
+    expect("n = 0, prepared", number, SNOWGIMMER_SUCCESS, 0, 0, 0.0);
+    number = snowgimmer_prepared_nearest_ml(weights, 0, mu, 0, points, 0, points, 1, target, 0, &out, 0, 0, &first,
+        &second, &real);
+    expect("n = 0, a matrix of 1", number, SNOWGIMMER_MATRIX_RANGE, 0, 0, 0.0);
+    expect_true("n = 0, prepared", out == 7);
+}
+
 /* list at radius 2 into so many places */
 static uint32_t list(size_t places) {
     return snowgimmer_list(weights, N, mu, N * N, target, N, distances, places, points, places * N, 2.0, 100, &first,
@@ -523,8 +669,8 @@ static void names(void) {
     static const char *const all[] = {"Success", "Unknown", "TableSize", "MuNonFinite", "MuRange", "WeightRange",
         "LengthMismatch", "NonFinite", "InvalidRadius", "BudgetRange", "CandidateLength", "CandidateDistance",
         "CandidateOutside", "WidenedRadius", "ListSize", "BudgetExhausted", "OutsideRadius", "Unknown", "ListFull",
-        "ReferenceIndex", "ChangedRange", "SettingRange", "Unknown"};
-    for (uint32_t number = 0; number < 23; number++) expect_name(number, all[number]);
+        "ReferenceIndex", "ChangedRange", "SettingRange", "MatrixRange", "NotInverse", "MappedRange", "Unknown"};
+    for (uint32_t number = 0; number < 26; number++) expect_name(number, all[number]);
     expect_name(UINT32_MAX, "Unknown");
 }
 
@@ -533,6 +679,7 @@ int main(void) {
     tables();
     candidates();
     candidate_at_the_radius();
+    receiver_coordinates();
     lists();
     for (int i = 0; i < 2; i++) found_distances(&rounded[i]);
     no_dimension();

@@ -26,9 +26,10 @@ from fractions import Fraction
 import snowgimmer
 from snowgimmer import (
     BudgetExhausted, BudgetRange, CandidateDistance, CandidateLength, CandidateOutside, ChangedRange, InvalidRadius,
-    LengthMismatch, ListFull, MuNonFinite, MuRange, NonFinite, OutsideRadius, Ratio, ReferenceIndex, SettingRange,
-    TableSize, TriangleCheck, WeightRange, WidenedRadius, change_reference, list_points, nearest, nearest_ml,
-    nearest_plane, nearest_seeded, ratio, round_away, round_coefficients, triangular_distance)
+    LengthMismatch, ListFull, MappedRange, MatrixRange, MuNonFinite, MuRange, NonFinite, NotInverse, OutsideRadius,
+    Ratio, ReferenceIndex, SettingRange, TableSize, TriangleCheck, WeightRange, WidenedRadius, change_reference,
+    list_points, nearest, nearest_ml, nearest_plane, nearest_seeded, prepared_nearest_ml, ratio, round_away,
+    round_coefficients, triangular_distance)
 
 HERE = os.path.dirname(os.path.abspath(__file__))
 
@@ -243,6 +244,115 @@ class Distances(Test):
         plane = nearest_plane(*G)
         self.assertEqual((plane.point, plane.residual), ((0, 1), (0.25, -0.5)))
         self.assertEqual(G[2], [0.25, 0.5])
+
+
+def through(point, matrix):
+    """A point through a matrix of rows, exactly."""
+    return tuple(sum(z * row[column] for z, row in zip(point, matrix)) for column in range(len(point)))
+
+
+class Prepared(Test):
+    """The search in the receiver's coordinates."""
+
+    # case G: the transformed target is 0.25, 0.5, and the nearest vector there is 0, 1
+    TABLE, TARGET = ([1, 1], [[0, 0], [0.5, 0]]), [0.75, 2]
+    TRANSFORM, INVERSE = [[1, 2], [1, 3]], [[3, -2], [-1, 1]]
+
+    def g(self, transform=TRANSFORM, inverse=INVERSE, target=TARGET, budget=100):
+        return prepared_nearest_ml(*self.TABLE, transform, inverse, target, budget)
+
+    def far(self, transform, inverse, target, budget=100):
+        """The nearest vector is 2^50, 0 before mapping; the transformed target is 0, 0.25."""
+        return prepared_nearest_ml([1, 1], [0, 0, 2**52, 0], transform, inverse, target, budget)
+
+    def test_found(self):
+        self.assertEqual(self.g(), ((1, 3), 3, 0.25))
+        flat = array.array("q", [1, 2, 1, 3])
+        for transform in [1, 2, 1, 3], ((1, 2), (1, 3)), flat, memoryview(flat), (ctypes.c_int64 * 4)(*flat):
+            self.assertEqual(self.g(transform, (3, -2, -1, 1)), ((1, 3), 3, 0.25))
+        self.assertEqual(prepared_nearest_ml([], [], [], [], [], 0), ((), 0, 0.0))
+        self.assertEqual(self.g([[1, 0], [0, 1]], [[1, 0], [0, 1]]), nearest_ml(*self.TABLE, self.TARGET, 100))
+        # both transposed, and exchanged with each other, they are inverse to each other
+        self.assertEqual(self.g([[1, 1], [2, 3]], [[3, -1], [-2, 1]]), ((0, 1), 2, 0.203125))
+        self.assertEqual(self.g(self.INVERSE, self.TRANSFORM), ((2, 1), 5, 0.25))
+
+    def test_matrices(self):
+        for length in 0, 3, 5:
+            self.refused(MatrixRange, {"index": 0}, self.g, [2**53] * length)
+            self.refused(MatrixRange, {"index": 0}, self.g, [1, 2, 1, 3], [2**53] * length)
+        for large in 2**52 + 1, -2**52 - 1, 2**63 - 1, -2**63:
+            self.refused(MatrixRange, {"index": 0}, self.g, [large, 2, 1, 3])
+            self.refused(MatrixRange, {"index": 3}, self.g, [1, 2, 1, large], [large] * 4)
+            self.refused(MatrixRange, {"index": 5}, self.g, [1, 2, 1, 3], [3, large, -1, 1])
+        # 2^52 itself is taken, and the products are exact
+        for most in 2**52, -2**52:
+            self.assertEqual(self.g([[1, most], [0, 1]], [[1, -most], [0, 1]], [1, 0]), ((1, 0), 2, 0.0))
+        for inverse in [3, -2, -1, 2], [3, -1, -2, 1], [-3, 2, 1, -1], [0] * 4:
+            self.refused(NotInverse, {}, self.g, self.TRANSFORM, inverse)
+        # the product is 2^64 + 1, not 1
+        self.refused(NotInverse, {}, prepared_nearest_ml, [1], [0], [274177], [67280421310721], [0.5], 9)
+
+    def test_targets(self):
+        matrices = self.TRANSFORM, self.INVERSE
+        for target in [0], [0] * 3:
+            self.refused(LengthMismatch, {"expected": 2, "found": len(target)}, self.g, *matrices, target)
+        for index, target in (0, [math.nan, 0]), (1, [2**52, math.inf]), (1, [0, 2**52 + 1]):
+            self.refused(NonFinite, {"index": index}, self.g, *matrices, target)
+        # of the transformed one: 3 times 2^52, and a sum of 2^52 + 1
+        self.refused(NonFinite, {"index": 0}, self.g, *matrices, [2**52, 0])
+        sums = [[1, -1], [0, 1]], [[1, 1], [0, 1]]
+        self.assertEqual(self.g(*sums, [2**52, 0]), ((2**52, 0), 2, 0.0))
+        self.refused(NonFinite, {"index": 1}, self.g, *sums, [2**52, 1])
+
+    def test_searches(self):
+        matrices = self.TRANSFORM, self.INVERSE
+        self.refused(BudgetRange, {"budget": 2**60 + 1}, self.g, *matrices, self.TARGET, 2**60 + 1)
+        self.refused(BudgetExhausted, {"nodes": 2, "radius": 0.25}, self.g, *matrices, self.TARGET, 2)
+        for n, kind, name in (5, CandidateDistance, "total"), (4, WidenedRadius, "radius"):
+            forth = [[int((row + 1) % n == column) for column in range(n)] for row in range(n)]
+            table, back = ([LARGEST] * n, [0] * (n * n)), [list(column) for column in zip(*forth)]
+            self.refused(kind, {name: math.inf}, prepared_nearest_ml, *table, forth, back, [0.5] * n, 9)
+
+    def test_mapped(self):
+        """2^50 by factors at the ends of 64 bits: -2^63 is mapped, 2^63 is not."""
+        for k in 1, 2**13 - 1, -2**13:
+            self.assertEqual(self.far([1, k, 0, 1], [1, -k, 0, 1], [0, 0.25]), ((2**50, 2**50 * k), 2, 0.0625))
+            self.assertEqual(self.far([k, 1, 1, 0], [0, 1, 1, -k], [0.25, 0]), ((2**50 * k, 2**50), 2, 0.0625))
+        for k in 2**13, -2**13 - 1, 2**14, 2**52:
+            self.refused(MappedRange, {"column": 1}, self.far, [1, k, 0, 1], [1, -k, 0, 1], [0, 0.25])
+            self.refused(MappedRange, {"column": 0}, self.far, [k, 1, 1, 0], [0, 1, 1, -k], [0.25, 0])
+        # 15 goes before 24
+        standing = {"nodes": 1, "radius": 0.0625 + 2.0**-49}
+        self.refused(BudgetExhausted, standing, self.far, [1, 2**13, 0, 1], [1, -2**13, 0, 1], [0, 0.25], 1)
+
+    def test_the_order_of_the_checks(self):
+        """22 and 23 come behind 5 and before 6."""
+        matrices, short, faulty = (self.TRANSFORM, self.INVERSE), [math.nan], [2**53] * 4
+        self.refused(WeightRange, {"index": 1}, prepared_nearest_ml, [1, 0], [0] * 4, faulty, faulty, short, 2**61)
+        self.refused(MatrixRange, {"index": 0}, self.g, faulty, faulty, short, 2**61)
+        self.refused(NotInverse, {}, self.g, self.TRANSFORM, self.TRANSFORM, short, 2**61)
+        self.refused(LengthMismatch, {"expected": 2, "found": 1}, self.g, *matrices, short, 2**61)
+        self.refused(NonFinite, {"index": 0}, self.g, *matrices, [2**52, 0], 2**61)
+
+    def test_drawn_tables(self):
+        """The answer is that of `nearest_ml` from the transformed target, mapped; and it is mapped back."""
+        draw = random.Random(6)
+        for n in list(range(1, 7)) * 20:
+            transform, inverse = ([[int(i == j) for i in range(n)] for j in range(n)] for _ in range(2))
+            for _ in range(3 * n if n > 1 else 0):
+                to, from_, factor = *draw.sample(range(n), 2), draw.randrange(-2, 3)
+                transform[to] = [x + factor * y for x, y in zip(transform[to], transform[from_])]
+                for row in inverse:
+                    row[from_] -= factor * row[to]
+            table = [draw.uniform(0.5, 4.5) for _ in range(n)], [draw.uniform(-0.5, 0.5) for _ in range(n * n)]
+            target, transformed = [draw.uniform(-10, 10) for _ in range(n)], [0.0] * n
+            for x, row in zip(target, inverse):
+                transformed = [total + x * float(factor) for total, factor in zip(transformed, row)]
+            reduced = nearest_ml(*table, transformed, 10**6)
+            found = prepared_nearest_ml(*table, transform, inverse, target, 10**6)
+            self.assertEqual((found.nodes, bits(found.distance)), (reduced.nodes, bits(reduced.distance)))
+            self.assertEqual(found.point, through(reduced.point, transform))
+            self.assertEqual(through(found.point, inverse), reduced.point)
 
 
 class References(Test):
@@ -503,7 +613,7 @@ class Refusals(Test):
 
     def test_one_class_a_number(self):
         kinds = snowgimmer.Refusal.__subclasses__()
-        self.assertEqual(sorted(kind.number for kind in kinds), [*range(2, 17), *range(18, 22)])
+        self.assertEqual(sorted(kind.number for kind in kinds), [*range(2, 17), *range(18, 25)])
         for kind in kinds:
             self.assertIs(getattr(snowgimmer, kind.__name__), kind)
             self.assertIn(kind.__name__, snowgimmer.__all__)
@@ -544,6 +654,19 @@ class Refusals(Test):
                                                      "below q: give p and q from 1 to 1000, p at least q")
         self.assertEqual(str(SettingRange(index=1)), "refused 21, SettingRange: q is not from 1 to 1000: give one from "
                                                      "1 to p")
+        self.assertEqual(str(MatrixRange(index=0)), "refused 22, MatrixRange: transform or inverse is not n·n long, or "
+                                                    "transform[0] is above 2^52 in magnitude: give n·n elements of "
+                                                    "each, row by row, up to 2^52")
+        self.assertEqual(str(MatrixRange(index=5)), "refused 22, MatrixRange: element 5 of transform and inverse, "
+                                                    "counted on from the one to the other, is above 2^52 in magnitude: "
+                                                    "correct it where it is made")
+        self.assertEqual(str(NotInverse()), "refused 23, NotInverse: transform and inverse are not inverse to each "
+                                            "other: give a matrix of determinant 1 or -1 and its inverse, both row by "
+                                            "row")
+        self.assertEqual(str(MappedRange(column=1)), "refused 24, MappedRange: coordinate 1 of the mapped point is no "
+                                                     "64-bit integer: see that the table is reduced, and that "
+                                                     "transform and inverse are its own")
+        self.assertIn("number 1 of the target or coefficients, given or transformed,", str(NonFinite(index=1)))
         for again in copy.copy(refusal), pickle.loads(pickle.dumps(refusal)):
             self.assertEqual((type(again), str(again), again.values), (BudgetExhausted, str(refusal), refusal.values))
 
@@ -577,6 +700,20 @@ class Plain(Test):
         self.wrong(ValueError, "point[1] is 9223372036854775808", change_reference, [0, 2**63], 0)
         self.wrong(TypeError, "point[0] is 1.0, of type float", change_reference, [1.0, 2], 0)
         self.wrong(TypeError, "point is of type str", change_reference, "12", 0)
+
+    def test_matrices(self):
+        for name in "transform", "inverse":
+            for kind, text, matrix in (
+                (ValueError, f"{name} has 1 rows: 2 are expected", [[1, 0, 0, 1]]),
+                (ValueError, f"{name}[1] has 3 entries: 2 are expected", [[1, 0], [0, 1, 0]]),
+                (ValueError, f"{name}[1][0] is 9223372036854775808", [[1, 0], [2**63, 1]]),
+                (ValueError, f"{name}[3] is -9223372036854775809", [1, 0, 0, -2**63 - 1]),
+                (TypeError, f"{name}[0][0] is 1.0, of type float: an integer is expected", [[1.0, 0], [0, 1]]),
+                (TypeError, f"{name}[3] is True", [1, 0, 0, True]),
+                (TypeError, f"{name} is of type str", "1001"),
+            ):
+                matrices = {"transform": [1, 0, 0, 1], "inverse": [1, 0, 0, 1], name: matrix}
+                self.wrong(kind, text, lambda: prepared_nearest_ml([1, 1], [0] * 4, **matrices, target=[0, 0], budget=9))
 
     def test_ratios(self):
         for name in "p", "q":
@@ -651,10 +788,10 @@ class Plain(Test):
 
 
 def numpy_or_stand_in():
-    """A maker of arrays of doubles of a shape, in an order; None if there is neither."""
+    """A maker of arrays of a shape, in an order, of doubles or of integers, "q"; None if there is neither."""
     try:
         import numpy
-        return lambda flat, shape, order="C": numpy.array(flat, dtype="d").reshape(shape, order=order)
+        return lambda flat, shape, order="C", kind="d": numpy.array(flat, dtype=kind).reshape(shape, order=order)
     except ImportError:
         pass
     try:
@@ -662,8 +799,8 @@ def numpy_or_stand_in():
     except ImportError:
         return None
     flags = {"C": 0, "F": _testbuffer.ND_FORTRAN}
-    return lambda flat, shape, order="C": memoryview(
-        _testbuffer.ndarray(flat, shape=list(shape), format="d", flags=flags[order]))
+    return lambda flat, shape, order="C", kind="d": memoryview(
+        _testbuffer.ndarray(flat, shape=list(shape), format=kind, flags=flags[order]))
 
 
 ARRAY = numpy_or_stand_in()
@@ -691,6 +828,19 @@ class Arrays(Test):
     def test_no_doubles(self):
         with self.assertRaises(TypeError):
             nearest_seeded(*E, ARRAY([2.0], (1,)), 2.25, 100)
+
+    def test_matrices(self):
+        def search(transform, inverse):
+            return prepared_nearest_ml([1, 1], [0, 0, 0.5, 0], transform, inverse, [0.75, 2], 100)
+
+        transform, inverse = [1, 2, 1, 3], [3, -2, -1, 1]
+        for shape in (2, 2), (4,):
+            matrices = ARRAY(transform, shape, kind="q"), ARRAY(inverse, shape, kind="q")
+            self.assertEqual(search(*matrices), ((1, 3), 3, 0.25))
+        self.wrong(ValueError, "transform is column-major", search, ARRAY(transform, (2, 2), "F", "q"), inverse)
+        self.wrong(ValueError, "inverse is column-major", search, transform, ARRAY(inverse, (2, 2), "F", "q"))
+        self.wrong(ValueError, "inverse has the shape (1, 4): (2, 2)", search, transform, ARRAY(inverse, (1, 4), kind="q"))
+        self.wrong(TypeError, "an integer is expected", search, ARRAY([1.0, 2.0, 1.0, 3.0], (2, 2)), inverse)
 
 
 @unittest.skipUnless("numpy" in sys.modules, "numpy is not there")

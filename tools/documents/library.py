@@ -107,6 +107,15 @@ def nearest_ml(weights, mu, target, budget=LARGEST_BUDGET):
     return list(out), nodes, d
 
 
+def prepared_nearest_ml(weights, mu, transform, inverse, target, budget=LARGEST_BUDGET):
+    """The point in the receiver's coordinates, its nodes and its distance before mapping; the matrices are flat."""
+    out = integers([0] * len(weights))
+    matrices = integers(transform), integers(inverse)
+    table = doubles(weights), doubles(mu)
+    nodes, _, d = call("prepared_nearest_ml", *table, *matrices, doubles(target), out, ctypes.c_uint64(budget))
+    return list(out), nodes, d
+
+
 def distance(weights, mu, target, point):
     """The computed distance of a point."""
     return call("distance", doubles(weights), doubles(mu), doubles(target), integers(point))[2]

@@ -8,6 +8,7 @@ LARGEST, SMALLEST = 2**63 - 1, -(2**63)
 COORD_LIMIT = 2.0**52
 LARGEST_DIMENSION, LARGEST_BUDGET, LARGEST_LIST = 23, 2**60, 4096
 LARGEST_FACTOR, LARGEST_PLACES = 1000, 256
+LARGEST_ELEMENT = 2**52
 DEFAULT_SETTINGS = 3, 1, 256  # p, q and places of a job that ends after the budget
 VERDICTS = "none", "holds", "fails", "open"  # by the C interface's numbers
 
@@ -149,6 +150,25 @@ def widened(n, radius):
     return radius + (2.0**-52 * max(radius, 1.0)) * float(4 * n)
 
 
+# ---- Prepared
+
+def transformed(inverse, target):
+    """The target in the table's coordinates."""
+    n, found = len(target), []
+    for column in range(n):
+        total = 0.0
+        for row in range(n):
+            total = total + target[row] * float(inverse[row * n + column])
+        found.append(total)
+    return found
+
+
+def mapped(point, matrix):
+    """In whole numbers."""
+    n = len(point)
+    return [sum(point[row] * matrix[row * n + column] for row in range(n)) for column in range(n)]
+
+
 # ---- Reference
 
 def changed(point, r):
@@ -215,20 +235,35 @@ def check_settings(p, q, places):
         raise Refusal(21, 2)
 
 
+def check_matrices(n, transform, inverse):
+    if len(transform) != n * n or len(inverse) != n * n:
+        raise Refusal(22, 0)
+    first_fault(22, transform + inverse, lambda z: abs(z) > LARGEST_ELEMENT, range(2 * n * n))
+    for a, b in (transform, inverse), (inverse, transform):
+        for row in range(n):
+            if mapped(a[row * n:row * n + n], b) != [int(row == column) for column in range(n)]:
+                raise Refusal(23)
+
+
 def check_index(length, r):
     if r >= length:
         raise Refusal(19)
 
 
-def check_changed(point):
-    first_fault(20, point, lambda cycles: not SMALLEST <= cycles <= LARGEST, range(len(point)))
+def check_integers(number, point):
+    """20 and 24: each must be an i64."""
+    first_fault(number, point, lambda z: not SMALLEST <= z <= LARGEST, range(len(point)))
+
+
+def check_target_and_output(n, target, out):
+    check_length(n, len(target))
+    check_length(n, len(out))
+    check_target(target)
 
 
 def check_search(weights, mu, target, out):
     check_table(weights, mu)
-    check_length(len(weights), len(target))
-    check_length(len(weights), len(out))
-    check_target(target)
+    check_target_and_output(len(weights), target, out)
 
 
 def check_distance(total):
@@ -276,14 +311,32 @@ def nearest_seeded(weights, mu, target, out, candidate, radius, budget):
     return search_within(weights, mu, target, out, wide, budget)
 
 
-def nearest_ml(weights, mu, target, out, budget):
-    check_search(weights, mu, target, out)
+def search_from_plane(weights, mu, target, out, budget):
     check_budget(budget)
     total = distance(weights, mu, target, plane(mu, target)[0])
     check_distance(total)
     wide = widened(len(weights), total)
     check_widened(wide)
     return search_within(weights, mu, target, out, wide, budget)
+
+
+def nearest_ml(weights, mu, target, out, budget):
+    check_search(weights, mu, target, out)
+    return search_from_plane(weights, mu, target, out, budget)
+
+
+def prepared_nearest_ml(weights, mu, transform, inverse, target, out, budget):
+    check_table(weights, mu)
+    n = len(weights)
+    check_matrices(n, transform, inverse)
+    check_target_and_output(n, target, out)
+    transformed_target, point = transformed(inverse, target), [0] * n
+    check_target(transformed_target)
+    told = search_from_plane(weights, mu, transformed_target, point, budget)
+    receiver = mapped(point, transform)
+    check_integers(24, receiver)
+    out[:] = receiver
+    return told
 
 
 def list_points(weights, mu, target, distances, points, radius, budget):
@@ -330,7 +383,7 @@ def point_distance(weights, mu, target, point):
 
 def change_reference(point, r):
     check_index(len(point), r)
-    check_changed(changed(point, r))
+    check_integers(20, changed(point, r))
     point[:] = changed(point, r)
     return ()
 

@@ -2,7 +2,7 @@
 //! and `babai.rs` whole, each line as it stands, and `round_away` and `COORD_LIMIT` out of `lib.rs`.
 //!
 //! The folder is ORACLE_SOURCE, or ../shared/docs/src seen from the repository's root. Behind `enumerate.rs` goes
-//! `src/appended.rs`: a table's constructor, and doors to functions that are private there.
+//! `src/appended.rs`: constructors from a table and from matrices, and functions that call what is private there.
 //!
 //! For the run tests as Rust it writes the crate `printing` as one file, since Rust does not look for its module in a `.rt`
 //! file, and the crate `refusals` without its contracts, each of whose clauses is a line.

@@ -43,6 +43,12 @@ REFUSALS = {
                 "correct the point where it is made, or take another reference satellite"),
     21: Refusal("SettingRange", "a setting is out of range",
                 "give p and q from 1 to 1000 with p at least q, and places from 1 to 256"),
+    22: Refusal("MatrixRange", "a matrix is not n·n long, or an element of one is above 2^52 in magnitude",
+                "give n·n integers of each matrix, row by row, up to 2^52"),
+    23: Refusal("NotInverse", "transform and inverse are not inverse to each other",
+                "give a matrix of determinant 1 or -1 and its inverse, both row by row"),
+    24: Refusal("MappedRange", "a coordinate of the mapped point is no 64-bit integer",
+                "see that the table is reduced, and that transform and inverse are its own"),
 }
 
 

@@ -41,6 +41,9 @@ refuses raises a `Refusal`, which has a class for each number.
     >>> ratio([each.distance for each in listed.points], radius=2, p=3, q=1)
     <Ratio.FAILS: 'fails'>
 
+`prepared_nearest_ml` takes a target in the receiver's coordinates, and gives the point in them, by a table of
+reduced ones.
+
 In positioning a point's integers are cycles relative to a reference satellite. If that is lost, take another:
 
     >>> change_reference((0, 1), reference=1)
@@ -57,11 +60,11 @@ from . import library as _library
 from . import values as _values
 from .refusals import (
     BudgetExhausted, BudgetRange, CandidateDistance, CandidateLength, CandidateOutside, ChangedRange, InvalidRadius,
-    LengthMismatch, ListFull, ListSize, MuNonFinite, MuRange, NonFinite, OutsideRadius, ReferenceIndex, Refusal,
-    SettingRange, TableSize, WeightRange, WidenedRadius)
+    LengthMismatch, ListFull, ListSize, MappedRange, MatrixRange, MuNonFinite, MuRange, NonFinite, NotInverse,
+    OutsideRadius, ReferenceIndex, Refusal, SettingRange, TableSize, WeightRange, WidenedRadius)
 from .refusals import refusal as _refusal
 
-__version__ = "0.8.1"
+__version__ = "0.9.0"
 
 LARGEST_DIMENSION = 23
 LARGEST_LIST = 4096
@@ -69,12 +72,13 @@ LARGEST_BUDGET = 2**60
 LARGEST_FACTOR = 1000
 
 __all__ = [
-    "nearest", "nearest_seeded", "nearest_ml", "list_points", "triangular_distance", "nearest_plane",
-    "round_coefficients", "round_away", "change_reference", "ratio", "TriangleCheck", "Nearest", "Listed",
-    "ListedPoint", "Plane", "Ratio", "LARGEST_DIMENSION", "LARGEST_LIST", "LARGEST_BUDGET", "LARGEST_FACTOR", "Refusal",
-    "TableSize", "MuNonFinite", "MuRange", "WeightRange", "LengthMismatch", "NonFinite", "InvalidRadius", "BudgetRange",
-    "CandidateLength", "CandidateDistance", "CandidateOutside", "WidenedRadius", "ListSize", "BudgetExhausted",
-    "OutsideRadius", "ListFull", "ReferenceIndex", "ChangedRange", "SettingRange",
+    "nearest", "nearest_seeded", "nearest_ml", "prepared_nearest_ml", "list_points", "triangular_distance",
+    "nearest_plane", "round_coefficients", "round_away", "change_reference", "ratio", "TriangleCheck", "Nearest",
+    "Listed", "ListedPoint", "Plane", "Ratio", "LARGEST_DIMENSION", "LARGEST_LIST", "LARGEST_BUDGET", "LARGEST_FACTOR",
+    "Refusal", "TableSize", "MuNonFinite", "MuRange", "WeightRange", "LengthMismatch", "NonFinite", "InvalidRadius",
+    "BudgetRange", "CandidateLength", "CandidateDistance", "CandidateOutside", "WidenedRadius", "ListSize",
+    "BudgetExhausted", "OutsideRadius", "ListFull", "ReferenceIndex", "ChangedRange", "SettingRange", "MatrixRange",
+    "NotInverse", "MappedRange",
 ]
 
 _loaded = _library.load()
@@ -85,7 +89,9 @@ class Nearest(NamedTuple):
 
     point: Tuple[int, ...]  #: the nearest vector, coordinate 0 first
     nodes: int  #: how many nodes the search tried
-    distance: float  #: the vector's computed distance, a square: exactly its `triangular_distance`
+    #: the vector's computed distance, a square: exactly its `triangular_distance`; of `prepared_nearest_ml` that of the
+    #: vector before mapping, in the table's coordinates
+    distance: float
 
 
 class ListedPoint(NamedTuple):
@@ -216,6 +222,48 @@ def nearest_ml(weights, mu, target, budget):
     table = _Table(weights, mu, target)
     budget, out = _budget(budget), table.point()
     nodes, _, distance = _call("nearest_ml", (*table.slices(), out), budget)
+    return Nearest(tuple(out), nodes, distance)
+
+
+def prepared_nearest_ml(weights, mu, transform, inverse, target, budget):
+    """The nearest integer vector of all to a target in the receiver's coordinates, in them, as a `Nearest`.
+
+    weights and mu are the table of reduced (decorrelated) coordinates. transform maps these to the receiver's, and
+    inverse maps the receiver's back to them. Each is n rows of n integers, or the n*n integers flat, row by row:
+
+        receiver[column] = sum over rows of  reduced[row] * transform[row][column]
+        reduced[column]  = sum over rows of  receiver[row] * inverse[row][column]
+
+    For float ambiguities a with the covariance matrix Q and the Z-transform z = Z'a, inverse is Z, transform Z^-1, and
+    the table is that of the covariance matrix Z'QZ. For a lattice basis with the rows B, reduced to U*B, transform is
+    U, inverse U^-1, and the table is that of U*B. Two matrices that are both transposed, or exchanged with each other,
+    are still inverse to each other: no check can tell, and the answer is another point.
+
+        >>> weights = [0.23201003429164407, 0.8808564288448116, 1.597444089456869]
+        >>> mu = [[0, 0, 0], [-0.2676677848571493, 0, 0], [-0.33235022626471844, -0.13099041533546327, 0]]
+        >>> inverse = [[-2, 3, 1], [3, -3, -1], [-1, 1, 0]]
+        >>> transform = [[1, 1, 0], [1, 1, 1], [0, -1, -3]]
+        >>> found = prepared_nearest_ml(weights, mu, transform, inverse, target=[5.45, 3.1, 2.97], budget=100)
+        >>> found.point, found.nodes, round(found.distance, 6)
+        ((5, 3, 4), 3, 0.218331)
+
+    The transformed target is computed in doubles: for each column the sum over the rows, from row 0 on, of the row's
+    target times inverse[row][column], starting at +0; each product and each sum is rounded. The search is that of
+    `nearest_ml` from the transformed target, and its point is mapped by transform in whole numbers, exactly. THE
+    DISTANCE IS THAT IN THE TABLE'S COORDINATES, from the transformed target, and "nearest" is by it: no vector of
+    reduced coordinates has a smaller one than the vector that was mapped, and inverse maps the point back to that
+    vector. Once the checks have passed it ends with a point, with BudgetExhausted or with MappedRange. Beside the
+    search it makes the two products of the matrices, 2*n**3 multiplications.
+    Raises, in this order, 2 to 5 for the table, MatrixRange, NotInverse, 6, 7 and 9 for the arguments, 7 also of the
+    transformed target, 11 and 13 if a distance overflows, BudgetExhausted, and MappedRange if a coordinate of the point
+    is no signed 64-bit integer. Since 0.9.0.
+    """
+    table = _Table(weights, mu, target)
+    transform = _values.integer_square("transform", transform, table.n)
+    inverse = _values.integer_square("inverse", inverse, table.n)
+    budget, out = _budget(budget), table.point()
+    slices = table.weights, table.mu, transform, inverse, table.target, out
+    nodes, _, distance = _call("prepared_nearest_ml", slices, budget)
     return Nearest(tuple(out), nodes, distance)
 
 

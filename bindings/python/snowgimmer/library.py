@@ -22,6 +22,7 @@ ARGUMENTS = {
     "nearest": TABLE + DOUBLES + INTEGERS + RADIUS + BUDGET,
     "nearest_seeded": TABLE + DOUBLES + INTEGERS + INTEGERS + RADIUS + BUDGET,
     "nearest_ml": TABLE + DOUBLES + INTEGERS + BUDGET,
+    "prepared_nearest_ml": TABLE + INTEGERS + INTEGERS + DOUBLES + INTEGERS + BUDGET,
     "list": TABLE + DOUBLES + DOUBLES + INTEGERS + RADIUS + BUDGET,
     "round": DOUBLES + INTEGERS,
     "nearest_plane": TABLE + DOUBLES + INTEGERS,

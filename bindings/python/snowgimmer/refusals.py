@@ -81,11 +81,15 @@ class LengthMismatch(Refusal):
 
 
 class NonFinite(Refusal):
-    """7: a target or coefficient is not finite or, in a search, above 2^52 in magnitude; its index."""
+    """7: a target or coefficient is not finite or, in a search, above 2^52 in magnitude; its index.
+
+    In `prepared_nearest_ml`, where the given target is sound, it is the column of the transformed one.
+    """
 
     number = 7
     fields = ("index",)
-    sentence = "number {index} of the target or coefficients is not finite, or above 2^52 in magnitude"
+    sentence = ("number {index} of the target or coefficients, given or transformed, is not finite, or above 2^52 in "
+                "magnitude")
 
 
 class InvalidRadius(Refusal):
@@ -193,6 +197,41 @@ class SettingRange(Refusal):
         if self.values["index"] == 0:
             return "p is not from 1 to 1000, or it is below q: give p and q from 1 to 1000, p at least q"
         return "q is not from 1 to 1000: give one from 1 to p"
+
+
+class MatrixRange(Refusal):
+    """22: transform or inverse is not n·n long, index 0; or an element of them is above 2^52 in magnitude, its index.
+
+    The elements of the inverse are counted from n·n on.
+    """
+
+    number = 22
+    fields = ("index",)
+
+    def text(self):
+        index = self.values["index"]
+        if index == 0:
+            return ("transform or inverse is not n·n long, or transform[0] is above 2^52 in magnitude: give n·n "
+                    "elements of each, row by row, up to 2^52")
+        return (f"element {index} of transform and inverse, counted on from the one to the other, is above 2^52 in "
+                "magnitude: correct it where it is made")
+
+
+class NotInverse(Refusal):
+    """23: transform and inverse are not inverse to each other."""
+
+    number = 23
+    sentence = ("transform and inverse are not inverse to each other: give a matrix of determinant 1 or -1 and its "
+                "inverse, both row by row")
+
+
+class MappedRange(Refusal):
+    """24: a coordinate of the mapped point is no signed 64-bit integer; its column."""
+
+    number = 24
+    fields = ("column",)
+    sentence = ("coordinate {column} of the mapped point is no 64-bit integer: see that the table is reduced, and that "
+                "transform and inverse are its own")
 
 
 BY_NUMBER = {kind.number: kind for kind in Refusal.__subclasses__()}

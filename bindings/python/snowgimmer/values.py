@@ -84,11 +84,16 @@ def doubles(name, value):
     return array(ctypes.c_double, [double(f"{name}[{i}]", each) for i, each in enumerate(found)])
 
 
+def integer(name, value):
+    """A signed 64-bit integer."""
+    return whole(name, value, SMALLEST, LARGEST)
+
+
 def integers(name, value):
     """A sequence as an array of signed 64-bit integers."""
     found = members(name, value)
     check_shape(name, value, [(len(found),)])
-    return array(ctypes.c_int64, [whole(f"{name}[{i}]", each, SMALLEST, LARGEST) for i, each in enumerate(found)])
+    return array(ctypes.c_int64, [integer(f"{name}[{i}]", each) for i, each in enumerate(found)])
 
 
 def is_row(value):
@@ -96,26 +101,36 @@ def is_row(value):
 
 
 def square(name, value, n):
-    """mu as an array of doubles, row by row: given flat, or as n rows of n."""
+    """A matrix as an array of doubles, row by row: given flat, or as n rows of n."""
+    return array(ctypes.c_double, entries(name, value, n, double))
+
+
+def integer_square(name, value, n):
+    """The same of signed 64-bit integers."""
+    return array(ctypes.c_int64, entries(name, value, n, integer))
+
+
+def entries(name, value, n, number):
+    """A matrix's numbers, each as `number` makes it, row by row."""
     found = members(name, value)
     if getattr(value, "ndim", 1) == 2 or (found and is_row(found[0])):
         check_shape(name, value, [(n, n)])
-        return array(ctypes.c_double, from_rows(name, found, n))
+        return from_rows(name, found, n, number)
     check_shape(name, value, [(len(found),)])
-    return array(ctypes.c_double, [double(f"{name}[{i}]", each) for i, each in enumerate(found)])
+    return [number(f"{name}[{i}]", each) for i, each in enumerate(found)]
 
 
-def from_rows(name, rows, n):
+def from_rows(name, rows, n, number):
     """The entries of n rows of n, one row after the other."""
     if len(rows) != n:
         raise ValueError(f"{name} has {len(rows)} rows: {n} are expected, as many as there are weights")
-    entries = []
+    found = []
     for j, row in enumerate(rows):
         row = members(f"{name}[{j}]", row)
         if len(row) != n:
             raise ValueError(f"{name}[{j}] has {len(row)} entries: {n} are expected, as many as there are weights")
-        entries += [double(f"{name}[{j}][{i}]", each) for i, each in enumerate(row)]
-    return entries
+        found += [number(f"{name}[{j}][{i}]", each) for i, each in enumerate(row)]
+    return found
 
 
 def array(kind, found):

@@ -53,6 +53,25 @@ unsafe extern "C" {
         real: *mut f64,
     ) -> u32;
 
+    pub(crate) fn snowgimmer_prepared_nearest_ml(
+        weights: *const f64,
+        weights_len: usize,
+        mu: *const f64,
+        mu_len: usize,
+        transform: *const i64,
+        transform_len: usize,
+        inverse: *const i64,
+        inverse_len: usize,
+        target: *const f64,
+        target_len: usize,
+        out: *mut i64,
+        out_len: usize,
+        budget: u64,
+        first: *mut u64,
+        second: *mut u64,
+        real: *mut f64,
+    ) -> u32;
+
     pub(crate) fn snowgimmer_list(
         weights: *const f64,
         weights_len: usize,

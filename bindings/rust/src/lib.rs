@@ -33,9 +33,11 @@
 //!
 //! [`Table`] gives points by value. The functions beside it write to slices that they are lent, and have the names of
 //! the Rust original's, which has no [`change_reference`] and no [`ratio`]. The latter is the verdict on a list, whether
-//! its first point stands out. [`TriangleCheck`] checks a table's entries one at a time, while the table is being
-//! received. Every one is that of the proved library: for all inputs its answer is the one that the library's
-//! contract fixes, and a refusal leaves every slice that it was lent as it was.
+//! its first point stands out. [`prepared_nearest_ml`], the original's `PreparedEnumerator::nearest_ml` with its matrices
+//! lent, takes a target in the receiver's coordinates and gives the point in them, by a table of reduced ones.
+//! [`TriangleCheck`] checks a table's entries one at a time, while the table is being received. Every one is that of the
+//! proved library: for all inputs its answer is the one that the library's contract fixes, and a refusal leaves every
+//! slice that it was lent as it was.
 //!
 //! The crate needs no standard library, allocates nothing and keeps nothing between calls. The variable SNOWGIMMER_LIB
 //! names the folder of `libsnowgimmer.a`, or the file, while a program is built.
@@ -107,8 +109,9 @@ pub fn round_away(x: f64) -> i64 {
 pub struct Found {
     /// How many nodes the search tried.
     pub nodes: u64,
-    /// The point's computed distance, a square: exactly what [`triangular_distance`] gives for it. It is finite, and +0
-    /// where n is 0.
+    /// The point's computed distance, a square: exactly what [`triangular_distance`] gives for it, and for
+    /// [`prepared_nearest_ml`] that of the point before mapping, in the table's coordinates. It is finite, and +0 where
+    /// n is 0.
     pub distance: f64,
 }
 
@@ -229,6 +232,90 @@ pub fn nearest_ml(weights: &[f64], mu: &[f64], target: &[f64], out: &mut [i64], 
             weights.len(),
             mu.as_ptr(),
             mu.len(),
+            target.as_ptr(),
+            target.len(),
+            out.as_mut_ptr(),
+            out.len(),
+            budget,
+            &mut r.first,
+            &mut r.second,
+            &mut r.real,
+        )
+    })?;
+    Ok(Found { nodes: report.first, distance: report.real })
+}
+
+/// Finds the nearest integer vector to a target in the receiver's coordinates, by a table of reduced (decorrelated)
+/// ones, writes it to `out` in the same coordinates and gives the number of nodes and the distance, a square.
+///
+/// `transform` and `inverse` are n·n integers each, row by row. `transform` maps reduced coordinates to the receiver's,
+/// and `inverse` maps them back:
+///
+/// ```text
+/// receiver[column] = sum over rows of  reduced[row] * transform[row*n+column]
+/// reduced[column]  = sum over rows of  receiver[row] * inverse[row*n+column]
+/// ```
+///
+/// For float ambiguities a with the covariance matrix Q and the Z-transform z = Z'a, `inverse` is Z, `transform` Z^-1,
+/// and the table is that of the covariance matrix Z'QZ. For a lattice basis with the rows B, reduced to U·B,
+/// `transform` is U, `inverse` U^-1, and the table is that of U·B. Two matrices that are both transposed, or exchanged
+/// with each other, are still inverse to each other: no check can tell, and the answer is another point.
+///
+/// The transformed target is computed in doubles: for each column the sum over the rows, from row 0 on, of the row's
+/// target times `inverse[row*n+column]`, starting at +0; each product and each sum is rounded. The search is that of
+/// [`nearest_ml`] from the transformed target, and its point is mapped by `transform` to `out`, in whole numbers and so
+/// exactly. **The distance is that in the table's coordinates**, from the transformed target, and "nearest" is by it: no
+/// vector of reduced coordinates has a smaller one than the vector that was mapped, and `inverse` maps `out` back to
+/// that vector.
+///
+/// Once the checks have passed it ends with a point, with [`Refusal::BudgetExhausted`] or with [`Refusal::MappedRange`].
+/// Beside the search it makes the two products of the matrices, 2·n³ multiplications.
+///
+/// ```
+/// // three float ambiguities in cycles, and a Z-transform by which they are decorrelated
+/// let target = [5.45, 3.10, 2.97];
+/// let z = [[-2, 3, 1], [3, -3, -1], [-1, 1, 0]];
+/// let z_inverse = [[1, 1, 0], [1, 1, 1], [0, -1, -3]];
+/// // the table of the reduced ambiguities, whose covariance matrix is Z'QZ
+/// let weights = [0.23201003429164407, 0.8808564288448116, 1.597444089456869];
+/// let mu = [[0.0; 3], [-0.2676677848571493, 0.0, 0.0], [-0.33235022626471844, -0.13099041533546327, 0.0]];
+///
+/// let (transform, inverse) = (z_inverse.as_flattened(), z.as_flattened());
+/// let mut out = [0; 3];
+/// let found =
+///     snowgimmer::prepared_nearest_ml(&weights, mu.as_flattened(), transform, inverse, &target, &mut out, 100)?;
+/// assert_eq!((found.nodes, out), (3, [5, 3, 4]));
+/// assert!((found.distance - 0.218331).abs() < 1e-6);
+/// # Ok::<(), snowgimmer::Refusal>(())
+/// ```
+///
+/// # Errors
+///
+/// In this order: 2 to 5, the table; [`Refusal::MatrixRange`]; [`Refusal::NotInverse`], by the products in whole
+/// numbers; 6, 7 and 9, the call, 7 with the index in the given target or, where that is sound, the column of the
+/// transformed one; 11 and 13, the candidate's distance; [`Refusal::BudgetExhausted`]; [`Refusal::MappedRange`].
+///
+/// Since 0.9.0.
+pub fn prepared_nearest_ml(
+    weights: &[f64],
+    mu: &[f64],
+    transform: &[i64],
+    inverse: &[i64],
+    target: &[f64],
+    out: &mut [i64],
+    budget: u64,
+) -> Result<Found, Refusal> {
+    // SAFETY: live slices with their own lengths, and `out` is no other's (see the crate's head)
+    let report = told(|r| unsafe {
+        ffi::snowgimmer_prepared_nearest_ml(
+            weights.as_ptr(),
+            weights.len(),
+            mu.as_ptr(),
+            mu.len(),
+            transform.as_ptr(),
+            transform.len(),
+            inverse.as_ptr(),
+            inverse.len(),
             target.as_ptr(),
             target.len(),
             out.as_mut_ptr(),

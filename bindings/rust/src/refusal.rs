@@ -39,7 +39,7 @@ pub enum Refusal {
     },
     /// 7: a target or a coefficient is not finite, or a target is above 2^52 in magnitude.
     NonFinite {
-        /// Its index.
+        /// Its index; in `prepared_nearest_ml`, where the given target is sound, the column of the transformed one.
         index: usize,
     },
     /// 8: the radius is negative or not finite.
@@ -108,6 +108,18 @@ pub enum Refusal {
         /// 0: p is out of range, or below q. 1: q is 0.
         index: usize,
     },
+    /// 22: transform or inverse is not n·n long, or an element of them is above 2^52 in magnitude.
+    MatrixRange {
+        /// 0 if one is not n·n long; else the element's index, those of the inverse being counted from n·n on.
+        index: usize,
+    },
+    /// 23: transform and inverse are not inverse to each other.
+    NotInverse,
+    /// 24: a coordinate of the mapped point is no `i64`.
+    MappedRange {
+        /// Its column.
+        column: usize,
+    },
 }
 
 impl Refusal {
@@ -134,6 +146,9 @@ impl Refusal {
             19 => Self::ReferenceIndex,
             20 => Self::ChangedRange { index: a },
             21 => Self::SettingRange { index: a },
+            22 => Self::MatrixRange { index: a },
+            23 => Self::NotInverse,
+            24 => Self::MappedRange { column: a },
             _ => unreachable!("the library has no refusal {number}"),
         }
     }
@@ -161,6 +176,9 @@ impl Refusal {
             Self::ReferenceIndex => 19,
             Self::ChangedRange { .. } => 20,
             Self::SettingRange { .. } => 21,
+            Self::MatrixRange { .. } => 22,
+            Self::NotInverse => 23,
+            Self::MappedRange { .. } => 24,
         }
     }
 }
@@ -179,7 +197,7 @@ impl fmt::Display for Refusal {
             Self::LengthMismatch { expected: n, found } if n == found => write!(f, "the output is not {n} long"),
             Self::LengthMismatch { expected: n, found } => write!(f, "a slice has the length {found}, not {n}"),
             Self::NonFinite { index: i } => {
-                write!(f, "target or coefficient {i} is not finite, or above 2^52 in magnitude")
+                write!(f, "target or coefficient {i}, given or transformed, is not finite, or above 2^52 in magnitude")
             }
             Self::InvalidRadius { radius } => write!(f, "the radius {radius:?} is negative or not finite"),
             Self::BudgetRange { budget } => write!(f, "the budget {budget} is above 2^60"),
@@ -217,6 +235,34 @@ impl fmt::Display for Refusal {
                 write!(f, "p is not from 1 to 1000, or it is below q: give p and q from 1 to 1000, p at least q")
             }
             Self::SettingRange { .. } => write!(f, "q is not from 1 to 1000: give one from 1 to p"),
+            Self::MatrixRange { index: 0 } => {
+                write!(
+                    f,
+                    "transform or inverse is not n·n long, or transform[0] is above 2^52 in magnitude: give n·n \
+                    elements of each, row by row, up to 2^52"
+                )
+            }
+            Self::MatrixRange { index: i } => {
+                write!(
+                    f,
+                    "element {i} of transform and inverse, counted on from the one to the other, is above 2^52 in \
+                    magnitude: correct it where it is made"
+                )
+            }
+            Self::NotInverse => {
+                write!(
+                    f,
+                    "transform and inverse are not inverse to each other: give a matrix of determinant 1 or -1 and \
+                    its inverse, both row by row"
+                )
+            }
+            Self::MappedRange { column: c } => {
+                write!(
+                    f,
+                    "coordinate {c} of the mapped point is no i64: see that the table is reduced, and that transform \
+                    and inverse are its own"
+                )
+            }
         }
     }
 }

@@ -87,6 +87,32 @@ impl<'a> Table<'a> {
         self.search(|out| crate::nearest_ml(self.weights, self.mu, target, out, budget))
     }
 
+    /// The nearest integer vector of all to a target in the receiver's coordinates, in them: this table is that of
+    /// the reduced coordinates, which `transform` maps to the receiver's and `inverse` maps back, n·n integers each, row
+    /// by row. The distance is that of the point before mapping, in this table's coordinates. Since 0.9.0.
+    ///
+    /// ```
+    /// let table = snowgimmer::Table::from_rows(&[1.0, 1.0], &[[0.0, 0.0], [0.5, 0.0]]);
+    /// let (transform, inverse) = ([1, 2, 1, 3], [3, -2, -1, 1]);
+    /// // the transformed target is 0.25, 0.5, and the nearest vector there is 0, 1
+    /// let found = table.prepared_nearest_ml(&transform, &inverse, &[0.75, 2.0], 100)?;
+    /// assert_eq!((&found.point[..], found.nodes, found.distance), (&[1, 3][..], 3, 0.25));
+    /// # Ok::<(), snowgimmer::Refusal>(())
+    /// ```
+    ///
+    /// # Errors
+    ///
+    /// Those of [`prepared_nearest_ml`](crate::prepared_nearest_ml).
+    pub fn prepared_nearest_ml(
+        &self,
+        transform: &[i64],
+        inverse: &[i64],
+        target: &[f64],
+        budget: u64,
+    ) -> Result<Nearest, Refusal> {
+        self.search(|out| crate::prepared_nearest_ml(self.weights, self.mu, transform, inverse, target, out, budget))
+    }
+
     /// Every integer vector that is admitted at the radius, by distance and then coordinates, in the places lent: one of
     /// `distances`, at most 4,096, and n of `points` for each vector. The call needs about 0.95 MB of stack.
     ///
@@ -160,8 +186,9 @@ pub struct Nearest {
     pub point: Point,
     /// How many nodes the search tried.
     pub nodes: u64,
-    /// The vector's computed distance, a square: exactly what [`Table::triangular_distance`] gives for it. It is
-    /// finite, and +0 where n is 0. Since 0.3.0.
+    /// The vector's computed distance, a square: exactly what [`Table::triangular_distance`] gives for it, and for
+    /// [`Table::prepared_nearest_ml`] that of the vector before mapping, in the table's coordinates. It is finite, and
+    /// +0 where n is 0. Since 0.3.0.
     pub distance: f64,
 }
 

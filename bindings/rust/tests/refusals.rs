@@ -247,6 +247,10 @@ fn told_in_words() {
     told(Refusal::MuRange { index: 2 }, "refused 4: mu[2] is above 2^52 in magnitude");
     told(Refusal::LengthMismatch { expected: 2, found: 1 }, "refused 6: a slice has the length 1, not 2");
     told(Refusal::LengthMismatch { expected: 2, found: 2 }, "refused 6: the output is not 2 long");
+    told(
+        Refusal::NonFinite { index: 1 },
+        "refused 7: target or coefficient 1, given or transformed, is not finite, or above 2^52 in magnitude",
+    );
     told(Refusal::InvalidRadius { radius: -1e300 }, "refused 8: the radius -1e300 is negative or not finite");
     told(
         Refusal::BudgetExhausted { nodes: 4, radius: 0.25 },
@@ -269,6 +273,26 @@ fn told_in_words() {
         "refused 21: p is not from 1 to 1000, or it is below q: give p and q from 1 to 1000, p at least q",
     );
     told(Refusal::SettingRange { index: 1 }, "refused 21: q is not from 1 to 1000: give one from 1 to p");
+    told(
+        Refusal::MatrixRange { index: 0 },
+        "refused 22: transform or inverse is not n·n long, or transform[0] is above 2^52 in magnitude: give n·n \
+        elements of each, row by row, up to 2^52",
+    );
+    told(
+        Refusal::MatrixRange { index: 5 },
+        "refused 22: element 5 of transform and inverse, counted on from the one to the other, is above 2^52 in \
+        magnitude: correct it where it is made",
+    );
+    told(
+        Refusal::NotInverse,
+        "refused 23: transform and inverse are not inverse to each other: give a matrix of determinant 1 or -1 and its \
+        inverse, both row by row",
+    );
+    told(
+        Refusal::MappedRange { column: 1 },
+        "refused 24: coordinate 1 of the mapped point is no i64: see that the table is reduced, and that transform and \
+        inverse are its own",
+    );
     let error: &dyn std::error::Error = &Refusal::OutsideRadius { radius: 1.0 };
     assert_eq!(error.to_string(), "refused 16: no vector is inside the radius 1.0: a larger one may do");
 }

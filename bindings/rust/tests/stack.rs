@@ -1,6 +1,7 @@
-//! The stack that the calls need at n = 23: 1 MB holds a list, and 64 kB the other searches.
+//! The stack that the calls need at n = 23: 1 MB holds a list, 68 kB a search in the receiver's coordinates, and 64 kB the
+//! other searches.
 
-use snowgimmer::{Found, Refusal, list, nearest, nearest_ml, nearest_seeded};
+use snowgimmer::{Found, Refusal, list, nearest, nearest_ml, nearest_seeded, prepared_nearest_ml};
 use std::thread;
 
 const N: usize = 23;
@@ -8,23 +9,33 @@ const WEIGHTS: [f64; N] = [1.0; N];
 const MU: [f64; N * N] = [0.0; N * N];
 const TARGET: [f64; N] = [0.0; N];
 const ZERO: [i64; N] = [0; N];
+const IDENTITY: [i64; N * N] = {
+    let mut matrix = [0; N * N];
+    let mut i = 0;
+    while i < N {
+        matrix[i * N + i] = 1;
+        i += 1;
+    }
+    matrix
+};
 
 /// Runs the call on a thread with so much stack, which ends the program if it is too little.
 fn within<A: Send>(bytes: usize, call: impl FnOnce() -> A + Send) -> A {
     thread::scope(|s| thread::Builder::new().stack_size(bytes).spawn_scoped(s, call).unwrap().join().unwrap())
 }
 
-fn search(call: impl FnOnce(&mut [i64]) -> Result<Found, Refusal> + Send) {
+fn search(bytes: usize, call: impl FnOnce(&mut [i64]) -> Result<Found, Refusal> + Send) {
     let mut out = [1; N];
-    let found = within(64 << 10, || call(&mut out)).unwrap();
+    let found = within(bytes, || call(&mut out)).unwrap();
     assert_eq!((found.nodes, found.distance, out), (N as u64, 0.0, ZERO));
 }
 
 #[test]
 fn searches() {
-    search(|out| nearest(&WEIGHTS, &MU, &TARGET, out, 0.0, 1000));
-    search(|out| nearest_seeded(&WEIGHTS, &MU, &TARGET, out, &ZERO, 0.0, 1000));
-    search(|out| nearest_ml(&WEIGHTS, &MU, &TARGET, out, 1000));
+    search(64 << 10, |out| nearest(&WEIGHTS, &MU, &TARGET, out, 0.0, 1000));
+    search(64 << 10, |out| nearest_seeded(&WEIGHTS, &MU, &TARGET, out, &ZERO, 0.0, 1000));
+    search(64 << 10, |out| nearest_ml(&WEIGHTS, &MU, &TARGET, out, 1000));
+    search(68 << 10, |out| prepared_nearest_ml(&WEIGHTS, &MU, &IDENTITY, &IDENTITY, &TARGET, out, 1000));
 }
 
 #[test]

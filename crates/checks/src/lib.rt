@@ -5,7 +5,7 @@ ghost use mathlib.Core.List.{[], _∷_, _++_};
 ghost use Prim.Native.Nat.{_≤_};
 ghost use Rattle.definitions.specs.Table.{largestDimension};
 ghost use Rattle.definitions.specs.Seeds.{widened};
-ghost use Rattle.definitions.specs.Checks.{firstRefusal, tableChecks, handedOn, budgetCheck, candidateDistanceCheck, candidateOutsideCheck, widenedRadiusCheck};
+ghost use Rattle.definitions.specs.Checks.{firstRefusal, tableChecks, targetCheck, handedOn, budgetCheck, candidateDistanceCheck, candidateOutsideCheck, widenedRadiusCheck};
 ghost use Rattle.definitions.specs.Calls as C;
 ghost use Rattle.definitions.specs.Lent.{atEntry, tableAt};
 ghost use Rattle.refusals.specs.Numbers.{verdict};
@@ -65,6 +65,14 @@ pub fn target_output_check(n: usize, target: &[f64], out: &[i64]) -> Verdict
     let output_length = length_check(n, out.len());
     let values = or_else(output_length, target_check(target));
     or_else(target_length, values)
+}
+
+// 7 of a target whose length is right, then 9.
+pub fn target_budget_check(target: &[f64], budget: u64) -> Verdict
+    ensures { λ r. ⌜ verdict r ≡ firstRefusal (targetCheck (atEntry target) ∷ budgetCheck budget ∷ []) ⌝ }
+{
+    let values = target_check(target);
+    or_else(values, budget_check(budget))
 }
 
 // 2 to 5, 6 of the target and of the output, then 7: what `nearest`, `nearest_seeded` and `nearest_ml` check first, and

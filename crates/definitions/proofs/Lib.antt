@@ -1,5 +1,6 @@
 -- Laws about the definitions.
 pub mod Cases
+pub mod PreparedCases
 pub mod Distances
 pub mod Admissions
 pub mod Steps
@@ -10,10 +11,12 @@ pub mod Leaves
 pub mod ListedOrder
 pub mod WalkLeaves
 pub mod Verdicts
+pub mod Counted
 pub mod Entries
 pub mod Tables
 pub mod Passed
 pub mod Answers
+pub mod Prepared
 pub mod HandedOn
 pub mod Settings
 pub mod Ratios

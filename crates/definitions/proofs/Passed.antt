@@ -17,7 +17,7 @@ use Rattle.definitions.specs.Refusals.{Refusal, lengthMismatch, invalidR
 use Rattle.definitions.specs.Checks.{Verdict, pass, refuse, firstRefusal, refuseIf, tableSizeCheck, muNonFiniteCheck, muRangeCheck, weightRangeCheck, tableChecks, lengthCheck, planeLengthCheck, targetCheck, notFinite, radiusCheck, handedOn, budgetCheck, candidateLengthCheck, candidateDistanceCheck, candidateOutsideCheck, widenedRadiusCheck}
 use Rattle.definitions.specs.Calls.{searchChecks, checksOfNearest, nearestChecks, checksOfSeeded, seededChecks, mlRadius, checksOfMl, mlChecks, checksOfList, listChecks, checksOfRound, round, roundOutput, checksOfPlane, planeOutput, planeCoefficients}
 use Rattle.definitions.proofs.Verdicts.{refuse≢pass}
-use Rattle.definitions.proofs.Tables.{CheckedTable, table-passed, size-passed, neither}
+use Rattle.definitions.proofs.Tables.{CheckedTable, table-passed, neither}
 
 -- ---- lengths
 same-if : (b : Bool) (e : Refusal) → refuseIf (not b) e ≡ pass → b ≡ true
@@ -43,13 +43,13 @@ all-passed [] q = none
 all-passed (pass ∷ vs) q = more refl (all-passed vs q)
 all-passed (refuse e ∷ vs) q = absurd (refuse≢pass q)
 
--- check 2, of a table that passes
-pub table-small : (largest : ℕ) (t : Table) → firstRefusal (tableChecks largest t) ≡ pass → dimension t ≤ largest
+-- a table whose checks pass
+pub table-checked : (largest : ℕ) (t : Table) → firstRefusal (tableChecks largest t) ≡ pass → CheckedTable largest t
 unfolding tableChecks
-table-small largest t q = go (all-passed (tableChecks largest t) q)
+table-checked largest t q = go (all-passed (tableChecks largest t) q)
   where
-    go : All (λ (v : Verdict). v ≡ pass) (tableChecks largest t) → dimension t ≤ largest
-    go (more p2 rest) = size-passed largest t p2 .0
+    go : All (λ (v : Verdict). v ≡ pass) (tableChecks largest t) → CheckedTable largest t
+    go (more p2 (more p3 (more p4 (more p5 none)))) = table-passed largest t p2 p3 p4 p5
 
 pub round-passed : (coefficients : List Float) (out : List ℤ) → round coefficients out ≡ pass → length coefficients ≡ length out
 unfolding round

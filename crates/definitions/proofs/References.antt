@@ -1,50 +1,35 @@
 -- A change of the reference satellite, coordinate by coordinate: where it is accepted, and what it leaves in the point. Assumes nothing.
 use mathlib.Core.Path.{_≡_, refl, sym, ap, _∙_}
 use mathlib.Core.Bool.{Bool, true, false, not}
-use mathlib.Core.List.{List, [], _∷_, map}
-use Prim.Native.Nat.{ℕ, zero, suc, _+_, _<_, _≤_}
+use mathlib.Core.List.{List, [], _∷_}
+use Prim.Native.Nat.{ℕ, _<_, _≤_}
 use native.Mathlib.Omega.{arith}
 use borrow.Author.Tests.{ltb-true, lt-ltb, le-ltb, not-false}
 use lib.Dec.{ltb}
-use lib.ListN.{length, getD}
-use lib.Seq.{ext-getD}
+use lib.ListN.{length}
 use lib.IntN.{ℤ, pos}
 use Rattle.rounding.specs.Integers.{isI64}
 use Rattle.lists.specs.All.{All, none, more}
 use Rattle.definitions.specs.Refusals.{Refusal, referenceIndex, changedRange}
 use Rattle.definitions.specs.Checks.{Verdict, pass, refuse, firstRefusal, refuseIf, countFrom}
 use Rattle.definitions.specs.Reference.{cycles, changed, changedPoint, changedFault, referenceIndexCheck, changedRangeCheck, checksOfChange, changeReference, changeOutput, Accepted}
+use Rattle.definitions.proofs.Counted.{counted-length, counted-at, counted-is}
 use Rattle.definitions.proofs.Verdicts.{orElse, refuse≢pass, counts, passes-clean, no-fault, first-cons, first-alone}
 use Rattle.definitions.proofs.Passed.{all-passed}
-
--- ---- the coordinates that are counted
-counted-length : (first k : ℕ) → length (countFrom first k) ≡ k
-unfolding countFrom
-counted-length first zero = refl
-counted-length first (suc k) = ap suc (counted-length (suc first) k)
-
-map-length : {A B : Type 0} (f : A → B) (xs : List A) → length (map f xs) ≡ length xs
-map-length f [] = refl
-map-length f (x ∷ xs) = ap suc (map-length f xs)
-
-counted-at : {A : Type 0} (f : ℕ → A) (d : A) (first n k : ℕ) → k < n → getD (map f (countFrom first n)) k d ≡ f (first + k)
-unfolding countFrom
-counted-at f d first zero k below = absurd (omega arith)
-counted-at f d first (suc n) zero below = ap f (omega arith)
-counted-at f d first (suc n) (suc k) below = counted-at f d (suc first) n k (omega arith) ∙ ap f (omega arith)
 
 module _ (a : List ℤ) (r : ℕ) where
   pub changed-length : length (changedPoint a r) ≡ length a
   unfolding changedPoint
-  changed-length = map-length (changed a r) (countFrom 0 (length a)) ∙ counted-length 0 (length a)
+  changed-length = counted-length (changed a r) (length a)
 
   pub changed-at : (k : ℕ) → k < length a → cycles (changedPoint a r) k ≡ changed a r k
   unfolding changedPoint
-  changed-at k below = counted-at (changed a r) (pos 0) 0 (length a) k below ∙ ap (changed a r) (omega arith)
+  changed-at = counted-at (changed a r) (pos 0) (length a)
 
   -- a point with these coordinates
   pub point-changed : (b : List ℤ) → length b ≡ length a → ((k : ℕ) → k < length a → cycles b k ≡ changed a r k) → b ≡ changedPoint a r
-  point-changed b same at = ext-getD (pos 0) b (changedPoint a r) (same ∙ sym changed-length) (λ k below. at k (omega arith) ∙ sym (changed-at k (omega arith)))
+  unfolding changedPoint
+  point-changed = counted-is (changed a r) (pos 0) (length a)
 
   -- ---- the answer
   pub change-is : changeReference a r ≡ firstRefusal (checksOfChange a r)

@@ -28,6 +28,13 @@ unfolding firstRefusal
 first-cons (refuse e) ws = refl
 first-cons pass ws = refl
 
+-- by what the first of them says
+pub first-refuses : (v : Verdict) (ws : List Verdict) {e : Refusal} → v ≡ refuse e → firstRefusal (v ∷ ws) ≡ v
+first-refuses v ws q = first-cons v ws ∙ ap (λ (x : Verdict). orElse x (firstRefusal ws)) q ∙ sym q
+
+pub first-passes : (v : Verdict) (ws : List Verdict) → v ≡ pass → firstRefusal (v ∷ ws) ≡ firstRefusal ws
+first-passes v ws q = first-cons v ws ∙ ap (λ (x : Verdict). orElse x (firstRefusal ws)) q
+
 -- a check alone
 pub first-alone : (v : Verdict) → firstRefusal (v ∷ []) ≡ v
 unfolding firstRefusal
@@ -74,6 +81,12 @@ counted-below first zero bound h = none
 counted-below first (suc k) bound h = more {x = first} (omega arith) (counted-below (suc first) k bound (omega arith))
 
 -- ---- the first index of a fault
+-- by refusals that are the same
+pub refuse-same : (fault : ℕ → Bool) (e e′ : ℕ → Refusal) → ((k : ℕ) → e k ≡ e′ k) → (is : List ℕ) → refuseAtFirst fault e is ≡ refuseAtFirst fault e′ is
+unfolding refuseAtFirst
+refuse-same fault e e′ same [] = refl
+refuse-same fault e e′ same (i ∷ is) = simp (same i, refuse-same fault e e′ same is)
+
 module _ (fault : ℕ → Bool) (e : ℕ → Refusal) where
   at-fault : (i : ℕ) (is : List ℕ) → fault i ≡ true → refuseAtFirst fault e (i ∷ is) ≡ refuse (e i)
   unfolding refuseAtFirst

@@ -14,6 +14,7 @@ pub mod Refusals
 pub mod Checks
 pub mod Entries
 pub mod Calls
+pub mod Prepared
 pub mod Settings
 pub mod Ratio
 pub mod Reference

@@ -93,3 +93,15 @@ changedRange index = record { number = 20; values = whole index ∷ [] }
 -- 21 (the first index: 0 of p, 1 of q, 2 of the places)
 abbrev pub settingRange : ℕ → Refusal
 settingRange index = record { number = 21; values = whole index ∷ [] }
+
+-- 22 (0 for a length; or an element's index, where the inverse's follow the transform's)
+abbrev pub matrixRange : ℕ → Refusal
+matrixRange index = record { number = 22; values = whole index ∷ [] }
+
+-- 23 (nothing)
+abbrev pub notInverse : Refusal
+notInverse = record { number = 23; values = [] }
+
+-- 24 (the first column)
+abbrev pub mappedRange : ℕ → Refusal
+mappedRange column = record { number = 24; values = whole column ∷ [] }

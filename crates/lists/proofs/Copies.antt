@@ -4,8 +4,8 @@ use mathlib.Core.List.{List, [], _∷_, _++_, append-assoc}
 use Prim.Native.Nat.{ℕ, _+_, _-_, _<_, _≤_}
 use native.Mathlib.Numerals.{add-one}
 use native.Mathlib.Omega.{arith}
-use lib.ListN.{length, getD, set, take, drop, length-set, length-drop}
-use lib.Seq.{take-suc, take-suc-set, take-all, length-take-le, drop-drop}
+use lib.ListN.{length, getD, set, take, drop, length-set, length-append, length-drop}
+use lib.Seq.{take-suc, take-suc-set, take-all, take-at, length-take-le, drop-drop}
 use borrow.Rule.Slice.PartMut.{midOf, putMid}
 use Rattle.lists.specs.Over.{over}
 
@@ -55,3 +55,11 @@ module _ {A : Type 0} (old src : List A) (at n : ℕ) (new : List A) (room : at 
       ap (putMid at size old) part-is
       ∙ sym (append-assoc (take at old) (take n src) (drop size (drop at old)))
       ∙ ap (λ (l : List A). take at old ++ take n src ++ l) (drop-drop size at old ∙ ap (λ (j : ℕ). drop (at + j) old) (size-is ∙ sym (length-take-le n src long)))
+
+-- an array after its first n elements were lent, as `&mut old[..n]`, and came back as new
+module _ {A : Type 0} (old new : List A) (n : ℕ) (room : n ≤ length old) (same : length new ≡ n) where
+  pub prefix-length : length (new ++ drop n old) ≡ length old
+  prefix-length = omega (arith, length-append new (drop n old), length-drop n old)
+
+  pub prefix-is : take n (new ++ drop n old) ≡ new
+  prefix-is = take-at new (drop n old) n same

@@ -3,6 +3,8 @@ pub mod Each
 pub mod Permutations
 pub mod Places
 pub mod Copies
+pub mod Filling
 pub mod Repeats
 pub mod Over
 pub mod Tuples
+pub mod Sums

@@ -3,3 +3,4 @@ pub mod All
 pub mod Permutation
 pub mod Places
 pub mod Over
+pub mod Sums

@@ -3,7 +3,7 @@ use mathlib.Core.Path.{_≡_}
 use native.Mathlib.Omega.{arith}
 use Rattle.refusals.specs.Numbers.{numbered}
 use Rattle.refusals.specs.declared.Refusal.{Refusal}
-use Rattle.refusals.specs.declared.Refusal.the-variants.{TableSize, MuNonFinite, MuRange, WeightRange, LengthMismatch, NonFinite, InvalidRadius, BudgetRange, CandidateLength, CandidateDistance, CandidateOutside, WidenedRadius, ListSize, BudgetExhausted, OutsideRadius, ListFull, ReferenceIndex, ChangedRange, SettingRange}
+use Rattle.refusals.specs.declared.Refusal.the-variants.{TableSize, MuNonFinite, MuRange, WeightRange, LengthMismatch, NonFinite, InvalidRadius, BudgetRange, CandidateLength, CandidateDistance, CandidateOutside, WidenedRadius, ListSize, BudgetExhausted, OutsideRadius, ListFull, ReferenceIndex, ChangedRange, SettingRange, MatrixRange, NotInverse, MappedRange}
 
 pub never-17 : (e : Refusal) → numbered e .number ≡ 17 → ⊥
 never-17 (TableSize a) q = omega (arith, q)
@@ -25,3 +25,6 @@ never-17 (ListFull a) q = omega (arith, q)
 never-17 ReferenceIndex q = omega (arith, q)
 never-17 (ChangedRange a) q = omega (arith, q)
 never-17 (SettingRange a) q = omega (arith, q)
+never-17 (MatrixRange a) q = omega (arith, q)
+never-17 NotInverse q = omega (arith, q)
+never-17 (MappedRange a) q = omega (arith, q)

@@ -45,6 +45,12 @@ pub enum Refusal {
     ChangedRange(usize),
     // 21: a setting is out of range (its index: 0 of p, 1 of q, 2 of the places).
     SettingRange(usize),
+    // 22: a matrix that is not n·n long (0), or an element above 2^52 in magnitude (its index; the inverse's follow the transform's).
+    MatrixRange(usize),
+    // 23: the two matrices are not inverse to each other.
+    NotInverse,
+    // 24: a coordinate of the mapped point is no i64 (its column).
+    MappedRange(usize),
 }
 
 // What a check says.
@@ -158,5 +164,8 @@ pub fn numbers(e: Refusal) -> Carried
         Refusal::ReferenceIndex => nothing(19),
         Refusal::ChangedRange(i) => whole(20, i as u64),
         Refusal::SettingRange(i) => whole(21, i as u64),
+        Refusal::MatrixRange(i) => whole(22, i as u64),
+        Refusal::NotInverse => nothing(23),
+        Refusal::MappedRange(i) => whole(24, i as u64),
     }
 }

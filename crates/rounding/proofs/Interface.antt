@@ -1,7 +1,7 @@
 -- What other crates may use of the laws of binary64: the other modules are private to this crate. Assumes nothing.
 
 -- kinds of values: a weight is finite and above zero, `Within f a x` says that |x| is at most 2^a
-pub use Rattle.rounding.proofs.Value.{Weight, number, nan-fit, zero-nonneg}
+pub use Rattle.rounding.proofs.Value.{Weight, number, nan-fit, sum-fit, zero-nonneg}
 pub use Rattle.rounding.proofs.PowerBounds.{Within, within-more, within-sub, within-add, within-mul, within-ofInt}
 -- from a program's tests and constants to these kinds
 pub use Rattle.rounding.proofs.Comparison.{held, failed, equals-itself, differs}

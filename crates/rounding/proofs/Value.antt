@@ -8,8 +8,8 @@ use native.Mathlib.Omega.{arith}
 use mathlib.Core.Bool.{Bool, true, false, not, _&&_, _||_, Bool·beq}
 use lib.IntN.{ℤ, pos}
 use lib.Dec.{T, eqb, ltb→lt, lt→ltb, eqb→eq, not-T, T-not}
-use lib.Ieee.{Float, nan, inf, fin, Format, up, down, below, level, le, lt, eq, fits, isNan}
-use lib.Ieee.Fits.{down-pos, and-i, and-l, and-r, eq→eqb, inf-fits, nan-fits}
+use lib.Ieee.{Float, nan, inf, fin, Format, up, down, below, level, le, lt, eq, fits, add, isNan}
+use lib.Ieee.Fits.{down-pos, and-i, and-l, and-r, eq→eqb, inf-fits, nan-fits, add-fits}
 use lib.Ieee.Scale.{overflow, finite}
 use Rattle.rounding.specs.Doubles.{negative}
 use Rattle.rounding.specs.Kinds.{Number, Finite, NonNegative}
@@ -27,6 +27,10 @@ pub record Weight (f : Format) (x : Float) : Type 0 where
 -- a NaN fits too, and is none of these
 pub nan-fit : (f : Format) → T (fits f nan)
 nan-fit f = nan-fits f
+
+-- so does every sum
+pub sum-fit : (f : Format) (x y : Float) → T (fits f (add f x y))
+sum-fit = add-fits
 
 pub number : {f : Format} {x : Float} → Finite f x → Number f x
 number {f} {x} p = record { fit = p .fit; num = go x (p .fin) }

@@ -6,13 +6,10 @@ use lib.IntN.{ℤ}
 use lib.Ieee.{Float}
 use Rattle.definitions.specs.Table.{Table, dimension, largestDimension}
 use Rattle.definitions.specs.Distance.{distance}
-use Rattle.definitions.specs.Seeds.{nearestPlane, widened}
-use Rattle.definitions.specs.Checks.{Verdict, firstRefusal, budgetCheck, candidateDistanceCheck, widenedRadiusCheck}
+use Rattle.definitions.specs.Seeds.{nearestPlane}
+use Rattle.definitions.specs.Checks.{firstRefusal, budgetCheck}
 use Rattle.definitions.specs.Calls.{searchChecks, mlRadius, mlChecks}
-
--- 11 and 13, the radius being the candidate's distance
-abbrev pub totalChecks : ℕ → Float → List Verdict
-totalChecks n R = candidateDistanceCheck R ∷ widenedRadiusCheck (widened n R) ∷ []
+use Rattle.seeded.specs.Candidates.{totalChecks}
 
 module _ (t : Table) (target : List Float) (out : List ℤ) (budget : ℕ) where
   pub ml-cut : firstRefusal ((searchChecks largestDimension t target out ++ budgetCheck budget ∷ []) ++ totalChecks (dimension t) (mlRadius t target)) ≡ mlChecks largestDimension t target out budget

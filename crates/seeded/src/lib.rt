@@ -5,7 +5,7 @@ ghost use Rattle.definitions.specs.Shapes.{Shaped, WalkShaped};
 ghost use Rattle.definitions.specs.Lent.{atEntry, atExit, tableAt};
 ghost use Rattle.definitions.specs.Calls as C;
 ghost use Rattle.enumerate.specs.View.{NearestAnswered};
-ghost use Rattle.seeded.specs.Candidates.{CandidateShaped};
+ghost use Rattle.seeded.specs.Candidates.{CandidateShaped, mlSearch};
 use babai::plane_levels;
 use checks::handed_on;
 use checks::ml_check;
@@ -98,6 +98,25 @@ fn ml_radius(weights: &[f64], mu: &[f64], target: &[f64]) -> f64
     plane_total(weights, mu, target, &mut coefficients[..n], &mut point[..n])
 }
 
+// `nearest_ml` behind its first checks: 11 and 13, then the search at the widened radius.
+pub fn ml_search(
+    weights: &[f64],
+    mu: &[f64],
+    target: &[f64],
+    out: &mut [i64],
+    budget: u64,
+) -> NearestAnswer
+    requires { ⌜ WalkShaped largestDimension (now weights) (now mu) (now target) (now out) budget ⌝ }
+    ensures { λ r. ⌜ NearestAnswered (mlSearch (tableAt weights mu) (atEntry target) budget) (atEntry out) r (atExit out) ⌝ }
+{
+    let radius = ml_radius(weights, mu, target);
+    let inside = total_check(weights.len(), radius);
+    if let Verdict::Refuse(e) = inside {
+        return NearestAnswer::Refused(e);
+    }
+    widened_search(weights, mu, target, out, radius, budget)
+}
+
 // Finds the nearest integer vector; tells the nodes and the point's distance. The candidate is the nearest-plane point,
 // and the radius is that point's distance.
 //
@@ -119,10 +138,5 @@ pub fn nearest_ml(
     if let Verdict::Refuse(e) = checked {
         return NearestAnswer::Refused(e);
     }
-    let radius = ml_radius(weights, mu, target);
-    let inside = total_check(weights.len(), radius);
-    if let Verdict::Refuse(e) = inside {
-        return NearestAnswer::Refused(e);
-    }
-    widened_search(weights, mu, target, out, radius, budget)
+    ml_search(weights, mu, target, out, budget)
 }

@@ -12,10 +12,12 @@ use Rattle.definitions.specs.Table.{Table, dimension, plusZero}
 use Rattle.definitions.specs.Refusals.{Refusal, whole, real}
 use Rattle.definitions.specs.Checks.{Verdict, pass, refuse}
 use Rattle.definitions.specs.Calls as C
+use Rattle.definitions.specs.Prepared.{mappedPoint, transformedOf, preparedNearestMl}
 use Rattle.definitions.specs.Ratio.{ratioCall}
 use Rattle.definitions.specs.Reference.{changeReference, changeOutput}
 use Rattle.definitions.specs.Entries.{Entry, fed, givenVerdict}
 use Rattle.theorems.specs.Promises.{NearestPromises, SeededPromises, MlPromises, DistancePromises, ListPromises, RoundPromises, PlanePromises}
+use Rattle.theorems.specs.Prepared.{PreparedPromises}
 use Rattle.theorems.specs.Doubles.{ofDoubles}
 use Rattle.theorems.specs.Settings.{RightP, RightQ}
 use Rattle.theorems.specs.Ratios.{Holds, Fails, Open, None, RatioCallPromises}
@@ -75,6 +77,15 @@ pub record MlTold (t : Table) (target : List Float) (out : List ℤ) (budget : �
   pub writes : out′ ≡ C.nearestOutput (C.nearestMl t target out budget) out
   pub promises : MlPromises t target out budget (C.nearestMl t target out budget) out′
   pub distance-agrees : DistanceAgrees t target (C.nearestMl t target out budget) out′
+
+pub record PreparedTold (t : Table) (transform inverse : List ℤ) (target : List Float) (out : List ℤ) (budget : ℕ) (r : Report) (out′ : List ℤ) : Type 0 where
+  pub tells : r ≡ ofNearest (preparedNearestMl t transform inverse target out budget)
+  pub told-as : PointTold (preparedNearestMl t transform inverse target out budget) r
+  pub writes : out′ ≡ C.nearestOutput (preparedNearestMl t transform inverse target out budget) out
+  pub promises : PreparedPromises t transform inverse target out budget (preparedNearestMl t transform inverse target out budget) out′
+  -- the distance told is that of out′ mapped back, from the transformed target
+  pub distance-agrees : (a : C.NearestPoint) → preparedNearestMl t transform inverse target out budget ≡ C.found a →
+      C.pointDistance t (transformedOf t inverse target) (mappedPoint (dimension t) inverse out′) ≡ C.found (a .distance)
 
 pub record DistanceTold (t : Table) (target : List Float) (point : List ℤ) (r : Report) : Type 0 where
   pub tells : r ≡ ofDistance (C.pointDistance t target point)

@@ -7,7 +7,7 @@ ghost use Rattle.definitions.specs.Lent.{atEntry, atExit, tableAt};
 ghost use Rattle.definitions.specs.Calls as C;
 ghost use Rattle.definitions.specs.Entries.{entryOf};
 ghost use Rattle.snowgimmer.specs.Reports.{toldAt};
-ghost use Rattle.snowgimmer.specs.Told.{DistanceTold, NearestTold, SeededTold, MlTold, ListTold, RatioTold, RoundTold, PlaneTold, ChangeTold, EntryTold};
+ghost use Rattle.snowgimmer.specs.Told.{DistanceTold, NearestTold, SeededTold, MlTold, PreparedTold, ListTold, RatioTold, RoundTold, PlaneTold, ChangeTold, EntryTold};
 
 mod entries;
 mod integers;
@@ -19,6 +19,7 @@ use entries::entry_report;
 use enumerate::nearest;
 use integers::read_integers;
 use listing::list;
+use prepared::prepared_nearest_ml;
 use ratio::ratio_of;
 use reference::change_reference;
 use report::distance_report;
@@ -102,6 +103,30 @@ pub extern "C" fn snowgimmer_nearest_ml(
     ensures { λ r. ⌜ MlTold (tableAt weights mu) (atEntry target) (atEntry out) budget (toldAt r first second real) (atExit out) ⌝ }
 {
     let answer = nearest_ml(weights, mu, target, out, budget);
+    stored(nearest_report(answer), first, second, real)
+}
+
+// The nearest integer vector to a target in the receiver's coordinates goes to out, in them: the search is that of
+// snowgimmer_nearest_ml over the table's reduced coordinates, which transform maps to the receiver's and inverse maps
+// back, n·n integers each, row by row. first is the number of nodes, real the distance of the vector before mapping.
+//
+// Refused: 2 to 5, 22, 23, 6, 7 (of the given target, then of the transformed one), 9, 11, 13, 15 and 24, in this order.
+#[no_mangle]
+pub extern "C" fn snowgimmer_prepared_nearest_ml(
+    weights: &[f64],
+    mu: &[f64],
+    transform: &[i64],
+    inverse: &[i64],
+    target: &[f64],
+    out: &mut [i64],
+    budget: u64,
+    first: &mut u64,
+    second: &mut u64,
+    real: &mut f64,
+) -> u32
+    ensures { λ r. ⌜ PreparedTold (tableAt weights mu) (atEntry transform) (atEntry inverse) (atEntry target) (atEntry out) budget (toldAt r first second real) (atExit out) ⌝ }
+{
+    let answer = prepared_nearest_ml(weights, mu, transform, inverse, target, out, budget);
     stored(nearest_report(answer), first, second, real)
 }
 

@@ -90,6 +90,31 @@ fn ml(name: &[u8], budget: u64) {
     with_integers(&out);
 }
 
+// Case G in other coordinates.
+fn prepared(name: &[u8], transform: &[i64], inverse: &[i64], budget: u64) {
+    let weights = [1.0, 1.0];
+    let mu = mu_of_two(0.5);
+    let target = [1.25, 1.75];
+    let mut out = [7, -8];
+    let mut first = 9;
+    let mut second = 9;
+    let mut real = 9.5;
+    let number = snowgimmer::snowgimmer_prepared_nearest_ml(
+        &weights,
+        &mu,
+        transform,
+        inverse,
+        &target,
+        &mut out,
+        budget,
+        &mut first,
+        &mut second,
+        &mut real,
+    );
+    told(name, number, first, second, real);
+    with_integers(&out);
+}
+
 fn list(name: &[u8], distances: &mut [f64], points: &mut [i64], radius: f64, budget: u64) {
     let weights = [1.0, 1.0];
     let mu = mu_of_two(0.5);
@@ -231,6 +256,19 @@ fn searches() {
     seeded(b"seeded G, radius 1:", &[1, 1], 1.0, 100);
     ml(b"ml G:", 100);
     ml(b"ml G, 2 nodes:", 2);
+    let forward = [1, 1, 2, 3];
+    let back = [3, -1, -2, 1];
+    prepared(b"prepared G:", &forward, &back, 100);
+    prepared(b"prepared G, exchanged:", &back, &forward, 100);
+    prepared(b"prepared G, 2 nodes:", &forward, &back, 2);
+    prepared(b"prepared G, 3 elements:", &forward, &[3, -1, -2], 100);
+    prepared(
+        b"prepared G, 2^62 at 5:",
+        &forward,
+        &[3, 4611686018427387904, -2, 1],
+        100,
+    );
+    prepared(b"prepared G, not inverse:", &forward, &forward, 100);
 }
 
 fn lists() {

@@ -34,13 +34,13 @@ use Rattle.theorems.proofs.FirstRefusal.{none-passes}
 abbrev Pass : Verdict → Type 0
 Pass v = v ≡ pass
 
-abbrev Passing : List Verdict → Type 0
+abbrev pub Passing : List Verdict → Type 0
 Passing vs = All Pass vs
 
-passing : (vs : List Verdict) → NoneFits vs → Passing vs
+pub passing : (vs : List Verdict) → NoneFits vs → Passing vs
 passing vs f = all-passed vs (none-passes vs f)
 
-none-fits : {vs : List Verdict} → Passing vs → NoneFits vs
+pub none-fits : {vs : List Verdict} → Passing vs → NoneFits vs
 none-fits none e m = List·Memᴰ·not-nil m
 none-fits (more p rest) e m = ⊎-elim (λ same. refuse≢pass (same ∙ p)) (none-fits rest e) (List·Memᴰ·cases-cons m)
 
@@ -52,13 +52,13 @@ denied false h = refl
 neither-is : {a b : Bool} → a ≡ false → b ≡ false → (a || b) ≡ false
 neither-is {b = b} p q = ap (λ (x : Bool). x || b) p ∙ q
 
-and-true : {a b : Bool} → a ≡ true → b ≡ true → (a && b) ≡ true
+pub and-true : {a b : Bool} → a ≡ true → b ≡ true → (a && b) ≡ true
 and-true {b = b} p q = ap (λ (x : Bool). x && b) p ∙ q
 
-not-refused : {b : Bool} (e : Refusal) → b ≡ false → refuseIf b e ≡ pass
+pub not-refused : {b : Bool} (e : Refusal) → b ≡ false → refuseIf b e ≡ pass
 not-refused e p = ap (λ (x : Bool). refuseIf x e) p
 
-is-finite : (x : Float) → notFinite x ≡ false → T (finite x)
+pub is-finite : (x : Float) → notFinite x ≡ false → T (finite x)
 is-finite x p = of-true (not-false (finite x) p)
 
 finite-passes : (x : Float) → T (finite x) → notFinite x ≡ false
@@ -68,7 +68,7 @@ bounded : (x : Float) → notFinite x ≡ false → beyondLimit x ≡ false → 
 bounded x p q = record { is-finite = is-finite x p; most = of-false q }
 
 -- ---- each check
-length-passes : (expected found : ℕ) → found ≡ expected → lengthCheck expected found ≡ pass
+pub length-passes : (expected found : ℕ) → found ≡ expected → lengthCheck expected found ≡ pass
 length-passes expected found e = not-refused (lengthMismatch expected found) (ap not (eq-eqb expected found (sym e)))
 
 module _ (largest : ℕ) (t : Table) where
@@ -91,26 +91,26 @@ module _ (largest : ℕ) (t : Table) where
       subst (λ (x : ℕ). fault (getD (t .mu) x nan) ≡ false) (sym (r .place)) (clean (r .j) (r .i) (r .left) (r .below))
 
   module _ (a : TableAccepted largest t) where
-    size-passes : tableSizeCheck largest t ≡ pass
+    pub size-passes : tableSizeCheck largest t ≡ pass
     size-passes = not-refused (tableSize n) (neither-is (le-ltb largest n (a .few)) (ap not (eq-eqb _ _ (a .square))))
 
-    finite-entries : muNonFiniteCheck t ≡ pass
+    pub finite-entries : muNonFiniteCheck t ≡ pass
     finite-entries = entries-pass notFinite muNonFinite (λ j i left below. finite-passes (getD (t .mu) (j * n + i) nan) (a .entries j i left below .is-finite))
 
-    bounded-entries : muRangeCheck t ≡ pass
+    pub bounded-entries : muRangeCheck t ≡ pass
     bounded-entries = entries-pass beyondLimit muRange (λ j i left below. denied (lt coordLimit (magnitude (getD (t .mu) (j * n + i) nan))) (a .entries j i left below .most))
 
-    weights-pass : weightRangeCheck t ≡ pass
+    pub weights-pass : weightRangeCheck t ≡ pass
     weights-pass =
         no-fault (λ k. weightFault (weight t k)) weightRange n (λ k below. neither-is (finite-passes (weight t k) (a .weights k below .is-finite)) (ap not (to-true (lt plusZero (weight t k)) (a .weights k below .above))))
 
 -- 7, with the limit and without
-targets-pass : (n : ℕ) (target : List Float) → length target ≡ n → ((i : ℕ) → i < n → Bounded (coordinate target i)) → targetCheck target ≡ pass
+pub targets-pass : (n : ℕ) (target : List Float) → length target ≡ n → ((i : ℕ) → i < n → Bounded (coordinate target i)) → targetCheck target ≡ pass
 unfolding targetCheck
 targets-pass n target e clean =
     no-fault (λ k. targetFault (coordinate target k)) nonFinite (length target) (λ k below. let x = clean k (omega arith) in neither-is (finite-passes (coordinate target k) (x .is-finite)) (denied (lt coordLimit (magnitude (coordinate target k))) (x .most)))
 
-targets-bounded : (n : ℕ) (target : List Float) → length target ≡ n → targetCheck target ≡ pass → (i : ℕ) → i < n → Bounded (coordinate target i)
+pub targets-bounded : (n : ℕ) (target : List Float) → length target ≡ n → targetCheck target ≡ pass → (i : ℕ) → i < n → Bounded (coordinate target i)
 targets-bounded n target e q i below =
     let p = both-false (notFinite (coordinate target i)) (beyondLimit (coordinate target i)) (target-passed target q i (omega arith)) in
     bounded _ (p .0) (p .1)
@@ -136,14 +136,14 @@ radius-pass R budget a = radius-passes R (finite-passes R (a .is-finite)) (denie
 candidate-length-passes : (expected found : ℕ) → found ≡ expected → candidateLengthCheck expected found ≡ pass
 candidate-length-passes expected found e = not-refused (candidateLength expected found) (ap not (eq-eqb expected found (sym e)))
 
-total-passes : (total : Float) → T (finite total) → candidateDistanceCheck total ≡ pass
+pub total-passes : (total : Float) → T (finite total) → candidateDistanceCheck total ≡ pass
 total-passes total h = not-refused (candidateDistance total) (finite-passes total h)
 
 outside-passes : (R d : Float) → T (not (lt R d)) → candidateOutsideCheck R d ≡ pass
 unfolding candidateOutsideCheck
 outside-passes R d h = not-refused (candidateOutside R) (denied (lt R d) h)
 
-widened-passes : (R : Float) → T (finite R) → widenedRadiusCheck R ≡ pass
+pub widened-passes : (R : Float) → T (finite R) → widenedRadiusCheck R ≡ pass
 widened-passes R h = not-refused (widenedRadius R) (finite-passes R h)
 
 -- ---- the calls
@@ -161,7 +161,7 @@ module _ (largest : ℕ) (t : Table) (target : List Float) where
 
 -- 2 to 5, 6 and 7, each by itself
 module _ (largest : ℕ) (t : Table) (target : List Float) (out : List ℤ) where
-  search-accepted : tableSizeCheck largest t ≡ pass → muNonFiniteCheck t ≡ pass → muRangeCheck t ≡ pass → weightRangeCheck t ≡ pass → lengthCheck (dimension t) (length target) ≡ pass → lengthCheck (dimension t) (length out) ≡ pass → targetCheck target ≡ pass → SearchAccepted largest t target out
+  pub search-accepted : tableSizeCheck largest t ≡ pass → muNonFiniteCheck t ≡ pass → muRangeCheck t ≡ pass → weightRangeCheck t ≡ pass → lengthCheck (dimension t) (length target) ≡ pass → lengthCheck (dimension t) (length out) ≡ pass → targetCheck target ≡ pass → SearchAccepted largest t target out
   search-accepted p2 p3 p4 p5 a b p7 =
       record { table-target = target-accepted largest t target (table-passed largest t p2 p3 p4 p5) a p7; output-length = sym (length-passed (dimension t) (length out) b) }
 

@@ -64,39 +64,43 @@ read-increasing n (suc j) few =
 abbrev pub carrying : ℕ → ℕ → Refusal
 carrying n i = record { number = n; values = whole i ∷ [] }
 
--- if it refuses, it does so under its number with the first fault
-abbrev pub AtFirst : Verdict → ℕ → (ℕ → Type 0) → (ℕ → Bool) → Type 0
-AtFirst v n Index fault = (e : Refusal) → v ≡ refuse e → (i : ℕ) × (e ≡ carrying n i) × FirstFault Index fault i
+-- if it refuses, it does so with the refusal of the first fault
+abbrev pub AtFirstBy : (ℕ → Refusal) → Verdict → (ℕ → Type 0) → (ℕ → Bool) → Type 0
+AtFirstBy refusal v Index fault = (e : Refusal) → v ≡ refuse e → (i : ℕ) × (e ≡ refusal i) × FirstFault Index fault i
 
-module _ (n : ℕ) (fault : ℕ → Bool) where
-  at-first : {is : List ℕ} → Increasing is → AtFirst (refuseAtFirst fault (carrying n) is) n (λ k. List·Memᴰ k is) fault
+-- which is one under its number that carries the index
+abbrev pub AtFirst : Verdict → ℕ → (ℕ → Type 0) → (ℕ → Bool) → Type 0
+AtFirst v n = AtFirstBy (carrying n) v
+
+module _ (refusal : ℕ → Refusal) (fault : ℕ → Bool) where
+  at-first : {is : List ℕ} → Increasing is → AtFirstBy refusal (refuseAtFirst fault refusal is) (λ k. List·Memᴰ k is) fault
   unfolding refuseAtFirst
   at-first none e q = absurd (refuse≢pass (sym q))
   at-first (next {i} {is} low more) e q = go (fault i) refl q (at-first more e)
     where
-      go : (b : Bool) → fault i ≡ b → cond b (refuse (carrying n i)) (refuseAtFirst fault (carrying n) is) ≡ refuse e → (refuseAtFirst fault (carrying n) is ≡ refuse e → (k : ℕ) × (e ≡ carrying n k) × FirstFault (λ j. List·Memᴰ j is) fault k) → (k : ℕ) × (e ≡ carrying n k) × FirstFault (λ j. List·Memᴰ j (i ∷ is)) fault k
+      go : (b : Bool) → fault i ≡ b → cond b (refuse (refusal i)) (refuseAtFirst fault refusal is) ≡ refuse e → (refuseAtFirst fault refusal is ≡ refuse e → (k : ℕ) × (e ≡ refusal k) × FirstFault (λ j. List·Memᴰ j is) fault k) → (k : ℕ) × (e ≡ refusal k) × FirstFault (λ j. List·Memᴰ j (i ∷ is)) fault k
       go true f q later =
-          let same : e ≡ carrying n i = cc in
+          let same : e ≡ refusal i = cc in
           (i, same, record { index = List·Memᴰ·head refl; faulty = f; first = λ k m less. ⊎-elim (λ own. absurd (omega arith)) (λ other. absurd (omega (arith, low k other))) (List·Memᴰ·cases-cons m) })
       go false f q later =
           let l = later q in
           let r = l .2 in
           (l .0, l .1, record { index = List·Memᴰ·tail (r .index); faulty = r .faulty; first = λ k m less. ⊎-elim (λ own. ap fault own ∙ f) (λ other. r .first k other less) (List·Memᴰ·cases-cons m) })
 
-  among : {v : Verdict} {Index Other : ℕ → Type 0} → ((k : ℕ) → Index k → Other k) → ((k : ℕ) → Other k → Index k) → AtFirst v n Index fault → AtFirst v n Other fault
+  among : {v : Verdict} {Index Other : ℕ → Type 0} → ((k : ℕ) → Index k → Other k) → ((k : ℕ) → Other k → Index k) → AtFirstBy refusal v Index fault → AtFirstBy refusal v Other fault
   among there back law e q =
       let l = law e q in
       let r = l .2 in
       (l .0, l .1, record { index = there (l .0) (r .index); faulty = r .faulty; first = λ k o less. r .first k (back k o) less })
 
   -- of the entries that are read
-  read-first : (size : ℕ) → AtFirst (refuseAtFirst fault (carrying n) (readIndices size size)) n (Read size size) fault
+  read-first : (size : ℕ) → AtFirstBy refusal (refuseAtFirst fault refusal (readIndices size size)) (Read size size) fault
   read-first size =
       among (λ k. read-exactly size size k .0) (λ k. read-exactly size size k .1)
       (at-first (read-increasing size size (omega arith)))
 
   -- of all that are counted
-  pub counted-first : (size : ℕ) → AtFirst (refuseAtFirst fault (carrying n) (countFrom 0 size)) n (λ k. k < size) fault
+  pub counted-first : (size : ℕ) → AtFirstBy refusal (refuseAtFirst fault refusal (countFrom 0 size)) (λ k. k < size) fault
   counted-first size =
       among (λ k m. omega (arith, counted 0 size k m .1)) (λ k less. counts 0 size k (omega arith) (omega arith))
       (at-first (counted-increasing 0 size))
@@ -104,18 +108,18 @@ module _ (n : ℕ) (fault : ℕ → Bool) where
 -- ---- the checks
 module _ (t : Table) where
   pub mu-finite-first : AtFirst (muNonFiniteCheck t) 3 (Read (dimension t) (dimension t)) (λ k. notFinite (getD (t .mu) k nan))
-  mu-finite-first = read-first 3 (λ k. notFinite (getD (t .mu) k nan)) (dimension t)
+  mu-finite-first = read-first (carrying 3) (λ k. notFinite (getD (t .mu) k nan)) (dimension t)
 
   pub mu-range-first : AtFirst (muRangeCheck t) 4 (Read (dimension t) (dimension t)) (λ k. beyondLimit (getD (t .mu) k nan))
-  mu-range-first = read-first 4 (λ k. beyondLimit (getD (t .mu) k nan)) (dimension t)
+  mu-range-first = read-first (carrying 4) (λ k. beyondLimit (getD (t .mu) k nan)) (dimension t)
 
   pub weight-first : AtFirst (weightRangeCheck t) 5 (λ k. k < dimension t) (λ k. weightFault (weight t k))
-  weight-first = counted-first 5 (λ k. weightFault (weight t k)) (dimension t)
+  weight-first = counted-first (carrying 5) (λ k. weightFault (weight t k)) (dimension t)
 
 pub target-first : (target : List Float) → AtFirst (targetCheck target) 7 (λ k. k < length target) (λ k. targetFault (coordinate target k))
 unfolding targetCheck
-target-first target = counted-first 7 (λ k. targetFault (coordinate target k)) (length target)
+target-first target = counted-first (carrying 7) (λ k. targetFault (coordinate target k)) (length target)
 
 pub coefficient-first : (coefficients : List Float) → AtFirst (finiteCheck coefficients) 7 (λ k. k < length coefficients) (λ k. notFinite (coordinate coefficients k))
 unfolding finiteCheck
-coefficient-first coefficients = counted-first 7 (λ k. notFinite (coordinate coefficients k)) (length coefficients)
+coefficient-first coefficients = counted-first (carrying 7) (λ k. notFinite (coordinate coefficients k)) (length coefficients)

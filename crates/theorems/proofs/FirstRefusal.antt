@@ -1,11 +1,11 @@
 -- The first refusal of a list of checks is the first that fits; where the checks' numbers rise it has the least, and only a check of its number can refuse so. Assumes nothing.
-use mathlib.Core.Path.{_≡_, refl, sym, ap, subst}
-use mathlib.Core.Bool.{Bool, true, false, _&&_, cond}
+use mathlib.Core.Path.{_≡_, refl, sym, ap, _∙_, subst}
+use mathlib.Core.Bool.{Bool, true, false, not, _&&_, _||_, cond, false≢true}
 use mathlib.Core.List.{List, [], _∷_, List·Memᴰ·head, List·Memᴰ·tail, List·Memᴰ·cases-cons, List·Memᴰ·not-nil, List·Memᴰ·eq-of-singleton}
 use mathlib.Core.Logic.{_⊎_, inl, inr, ⊎-elim}
 use Prim.Native.Nat.{ℕ, _≤_, _<_}
 use native.Mathlib.Omega.{arith}
-use borrow.Author.Tests.{eqb-false}
+use borrow.Author.Tests.{eqb-false, eq-eqb}
 use lib.Dec.{T, leb, leb→le, ltb, ltb→lt, eqb}
 use lib.ListN.{length}
 use lib.Ieee.{Float}
@@ -15,6 +15,7 @@ use Rattle.definitions.specs.Refusals.{Refusal, whole}
 use Rattle.definitions.specs.Checks.{Verdict, pass, refuse, firstRefusal, muNonFiniteCheck, muRangeCheck, weightRangeCheck}
 use Rattle.definitions.proofs.Verdicts.{refuse≢pass}
 use Rattle.theorems.specs.Refusals.{Fits, NoneFits, FirstFits, refuses-here, passes-here, Numbered, no-checks, check, rising, FirstIsLeast, FirstFault, FirstIndices}
+use Rattle.theorems.specs.Answers.{Under}
 use Rattle.theorems.proofs.FirstFaults.{carrying, AtFirst, mu-finite-first, mu-range-first, weight-first}
 
 -- a list of checks refuses by the first that fits, or none fits and it passes
@@ -57,6 +58,25 @@ numbers-below top (check {n} {ns} own more) h e m =
     (numbers-below top more (and-r (ltb n top) (allBelow top ns) h) e)
     (List·Memᴰ·cases-cons m)
 
+-- ---- where they are other than two
+abbrev pub allApart : ℕ → ℕ → List ℕ → Bool
+allApart j k [] = true
+allApart j k (n ∷ ns) = not (eqb n j || eqb n k) && allApart j k ns
+
+pub numbers-apart : {ns : List ℕ} {vs : List Verdict} (j k : ℕ) → Numbered ns vs → T (allApart j k ns) → (e : Refusal) → Fits vs e → Under j k e → ⊥
+numbers-apart j k no-checks h e m u = List·Memᴰ·not-nil m
+numbers-apart j k (check {n} {ns} own more) h e m u =
+    ⊎-elim
+    (λ same. ⊎-elim (λ is. other (eqb n j) (eqb n k) (inl (eq-eqb n j (sym (own e (sym same)) ∙ is))) (and-l (not (eqb n j || eqb n k)) (allApart j k ns) h)) (λ is. other (eqb n j) (eqb n k) (inr (eq-eqb n k (sym (own e (sym same)) ∙ is))) (and-l (not (eqb n j || eqb n k)) (allApart j k ns) h)) u)
+    (λ later. numbers-apart j k more (and-r (not (eqb n j || eqb n k)) (allApart j k ns) h) e later u)
+    (List·Memᴰ·cases-cons m)
+  where
+    other : (a b : Bool) → (a ≡ true) ⊎ (b ≡ true) → T (not (a || b)) → ⊥
+    other true b either h = h
+    other false true either h = h
+    other false false (inl p) h = false≢true p
+    other false false (inr p) h = false≢true p
+
 -- ---- where the numbers rise
 above : {ns : List ℕ} {vs : List Verdict} (low : ℕ) → Numbered ns vs → T (rising low ns) → (e : Refusal) → Fits vs e → low ≤ e .number
 above low no-checks r e m = absurd (List·Memᴰ·not-nil m)
@@ -96,6 +116,28 @@ only-its-number (check {n} {ns} {v} {vs} own more) e m = go (eqb n (e .number)) 
     go true q more (inr later) = List·Memᴰ·tail (more later)
     go false q more (inl same) = absurd (omega (arith, eqb-false n (e .number) q, own e (sym same)))
     go false q more (inr later) = more later
+
+-- and the first that refuses is the first of that number that does
+pub first-cases : {v : Verdict} {vs : List Verdict} {e : Refusal} → FirstFits (v ∷ vs) e → (v ≡ refuse e) ⊎ ((v ≡ pass) × FirstFits vs e)
+first-cases refuses-here = inl refl
+first-cases (passes-here f) = inr (refl, f)
+
+first-after : (v : Verdict) {vs : List Verdict} {e : Refusal} → v ≡ pass → FirstFits vs e → FirstFits (v ∷ vs) e
+first-after pass q f = passes-here f
+first-after (refuse d) q f = absurd (refuse≢pass q)
+
+first-by : (v : Verdict) {vs : List Verdict} {e : Refusal} → v ≡ refuse e → FirstFits (v ∷ vs) e
+first-by (refuse d) {vs} {e} q = let same : d ≡ e = cc in subst (λ (r : Refusal). FirstFits (refuse d ∷ vs) r) same refuses-here
+first-by pass q = absurd (refuse≢pass (sym q))
+
+pub first-of-number : {ns : List ℕ} {vs : List Verdict} → Numbered ns vs → (e : Refusal) → FirstFits vs e → FirstFits (numberedAs (e .number) ns vs) e
+first-of-number (check {n} {ns} {v} {vs} own more) e f = go (eqb n (e .number)) refl (first-of-number more e) (first-cases f)
+  where
+    go : (b : Bool) → eqb n (e .number) ≡ b → (FirstFits vs e → FirstFits (numberedAs (e .number) ns vs) e) → (v ≡ refuse e) ⊎ ((v ≡ pass) × FirstFits vs e) → FirstFits (cond b (v ∷ numberedAs (e .number) ns vs) (numberedAs (e .number) ns vs)) e
+    go true q more (inl same) = first-by v same
+    go true q more (inr (passed, later)) = first-after v passed (more later)
+    go false q more (inl same) = absurd (omega (arith, eqb-false n (e .number) q, own e same))
+    go false q more (inr (passed, later)) = more later
 
 -- so its index is the first fault, if one check has that number
 pub carries-first : {v : Verdict} {n : ℕ} {Index : ℕ → Type 0} {fault : ℕ → Bool} → AtFirst v n Index fault → {ns : List ℕ} {vs : List Verdict} → Numbered ns vs → numberedAs n ns vs ≡ v ∷ [] → (i : ℕ) → Fits vs (carrying n i) → FirstFault Index fault i

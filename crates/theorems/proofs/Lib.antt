@@ -38,6 +38,8 @@ pub mod CheckNumbers
 pub mod CallNumbers
 pub mod MinusZero
 pub mod Accepted
+pub mod Matrices
+pub mod PreparedChecks
 pub mod Entries
 -- ---- the calls
 pub mod Endings
@@ -47,6 +49,7 @@ pub mod SearchCalls
 pub mod CandidateCalls
 pub mod ListCall
 pub mod Promises
+pub mod Prepared
 pub mod Ratios
 pub mod Settings
 pub mod RatioCalls

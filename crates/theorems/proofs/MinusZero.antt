@@ -35,7 +35,7 @@ real≢whole p = let z : _≡_ {A = ℕ} 0 1 = cc in omega arith
 real-same : {x y : Float} → real x ≡ real y → x ≡ y
 real-same p = cc
 
-no-values : Absent []
+pub no-values : Absent []
 no-values m = List·Memᴰ·not-nil m
 
 pub a-whole : {k : ℕ} {vs : List Value} → Absent vs → Absent (whole k ∷ vs)
@@ -54,38 +54,38 @@ one-double other = a-double other no-values
 abbrev pub Clear : Verdict → Type 0
 Clear v = (e : Refusal) → v ≡ refuse e → NoMinusZero e
 
-by-test : (b : Bool) (d : Refusal) → (b ≡ true → NoMinusZero d) → Clear (refuseIf b d)
+pub by-test : (b : Bool) (d : Refusal) → (b ≡ true → NoMinusZero d) → Clear (refuseIf b d)
 by-test = refused-by NoMinusZero
 
-by-index : {v : Verdict} {n : ℕ} {Index : ℕ → Type 0} {fault : ℕ → Bool} → AtFirst v n Index fault → Clear v
+pub by-index : {v : Verdict} {n : ℕ} {Index : ℕ → Type 0} {fault : ℕ → Bool} → AtFirst v n Index fault → Clear v
 by-index law e q = subst NoMinusZero (sym (law e q .1)) one-whole
 
 -- a double with a fault that minus zero does not have
 faulty : (fault : Float → Bool) → fault minusZero ≡ false → (x : Float) → fault x ≡ true → x ≡ minusZero → ⊥
 faulty fault f x t z = false≢true (sym f ∙ ap fault (sym z) ∙ t)
 
-length-clear : (expected found : ℕ) → Clear (lengthCheck expected found)
+pub length-clear : (expected found : ℕ) → Clear (lengthCheck expected found)
 length-clear expected found = by-test (not (eqb expected found)) (lengthMismatch expected found) (λ q. a-whole one-whole)
 
 radius-clear : (R : Float) → Clear (radiusCheck R)
 unfolding radiusCheck
 radius-clear R = by-test (notFinite R || lt R plusZero) (invalidRadius R) (λ q. one-double (faulty (λ x. notFinite x || lt x plusZero) minus-zero-passes R q))
 
-budget-clear : (budget : ℕ) → Clear (budgetCheck budget)
+pub budget-clear : (budget : ℕ) → Clear (budgetCheck budget)
 budget-clear budget = by-test (ltb largestBudget budget) (budgetRange budget) (λ q. one-whole)
 
-total-clear : (total : Float) → Clear (candidateDistanceCheck total)
+pub total-clear : (total : Float) → Clear (candidateDistanceCheck total)
 total-clear total = by-test (notFinite total) (candidateDistance total) (λ q. one-double (faulty notFinite refl total q))
 
 outside-clear : (R d : Float) → Clear (candidateOutsideCheck (handedOn R) d)
 unfolding candidateOutsideCheck
 outside-clear R d = by-test (lt (handedOn R) d) (candidateOutside (handedOn R)) (λ q. one-double (never-minus-zero R))
 
-widened-clear : (radius : Float) → Clear (widenedRadiusCheck radius)
+pub widened-clear : (radius : Float) → Clear (widenedRadiusCheck radius)
 widened-clear radius = by-test (notFinite radius) (widenedRadius radius) (λ q. one-double (faulty notFinite refl radius q))
 
 -- ---- the checks of a table and of a search, before others
-table-clear : (largest : ℕ) (t : Table) {vs : List Verdict} → All Clear vs → All Clear (tableChecks largest t ++ vs)
+pub table-clear : (largest : ℕ) (t : Table) {vs : List Verdict} → All Clear vs → All Clear (tableChecks largest t ++ vs)
 unfolding tableChecks
 table-clear largest t rest =
     let n = dimension t in

@@ -23,7 +23,7 @@ use Rattle.theorems.specs.Refusals.{FirstFault, Numbered, no-checks, che
 use Rattle.theorems.specs.Answers.{VerdictDemand1}
 use Rattle.theorems.specs.Reference.{exchanged, leftBy, AcceptedPromises, ReferencePromises}
 use Rattle.theorems.proofs.Booleans.{to-true}
-use Rattle.theorems.proofs.FirstFaults.{AtFirst, counted-first}
+use Rattle.theorems.proofs.FirstFaults.{carrying, AtFirst, counted-first}
 use Rattle.theorems.proofs.FirstRefusal.{decision, first-fits, first-least, carries-first}
 use Rattle.theorems.proofs.CheckNumbers.{by-test, by-index}
 use Rattle.theorems.proofs.RefusedCalls.{verdict-demand-1}
@@ -184,7 +184,7 @@ module _ (a : List ℤ) (r : ℕ) (below : r < length a) where
 -- ---- the numbers of its checks, and the index of 20
 module _ (a : List ℤ) (r : ℕ) where
   changed-first : AtFirst (changedRangeCheck a r) 20 (λ k. k < length a) (changedFault a r)
-  changed-first = counted-first 20 (changedFault a r) (length a)
+  changed-first = counted-first (carrying 20) (changedFault a r) (length a)
 
   change-numbered : Numbered (19 ∷ 20 ∷ []) (checksOfChange a r)
   change-numbered = check (by-test (not (ltb r (length a))) referenceIndex) (check (by-index changed-first) no-checks)

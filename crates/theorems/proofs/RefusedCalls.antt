@@ -21,21 +21,17 @@ use Rattle.theorems.specs.Refusals.{Fits, NoneFits, FirstFits}
 use Rattle.theorems.specs.Answers.{Under, Demand1, VerdictDemand1}
 use Rattle.theorems.proofs.FirstRefusal.{Decision, decision, first-fits, first-refuses}
 
--- ---- any call with these checks, all of smaller numbers than the walk's own refusals
+-- ---- any call with these checks, whose numbers are other than those of the walk's own refusals
 end-answers : {A : Type 0} {j k : ℕ} {end answer : Answer A} → ((e : Refusal) → end ≡ refused e → Under j k e) → answer ≡ end → (x : Answer A) → end ≡ x → ((a : A) × (answer ≡ found a)) ⊎ ((e : Refusal) × (answer ≡ refused e) × Under j k e)
 end-answers own is (found a) q = inl (a, is ∙ q)
 end-answers own is (refused e) q = inr (e, is ∙ q, own e q)
 
-module _ {A : Type 0} {checks : List Verdict} (below : (e : Refusal) → Fits checks e → e .number < 15) {j k : ℕ} (first : 15 ≤ j) (second : 15 ≤ k) {end answer : Answer A} (own : NoneFits checks → (e : Refusal) → end ≡ refused e → Under j k e) (is : answer ≡ after (firstRefusal checks) end) where
-  not-own : (e : Refusal) → Fits checks e → Under j k e → ⊥
-  not-own e m (inl q) = let l = below e m in omega (arith, l, q, first)
-  not-own e m (inr q) = let l = below e m in omega (arith, l, q, second)
-
+module _ {A : Type 0} {checks : List Verdict} {j k : ℕ} (apart : (e : Refusal) → Fits checks e → Under j k e → ⊥) {end answer : Answer A} (own : NoneFits checks → (e : Refusal) → end ≡ refused e → Under j k e) (is : answer ≡ after (firstRefusal checks) end) where
   refused-by : (e : Refusal) → FirstFits checks e → (answer ≡ refused e) × (Under j k e → ⊥)
-  refused-by e f = (is ∙ after-refuse (firstRefusal checks) end e (first-refuses f), not-own e (first-fits f))
+  refused-by e f = (is ∙ after-refuse (firstRefusal checks) end e (first-refuses f), apart e (first-fits f))
 
-  pub demand-1 : {Unchanged : Type 0} → ((e : Refusal) → answer ≡ refused e → Unchanged) → Decision checks → Demand1 checks j k answer Unchanged
-  demand-1 unchanged (inl (d, f, q)) =
+  pub demand-apart : {Unchanged : Type 0} → ((e : Refusal) → answer ≡ refused e → Unchanged) → Decision checks → Demand1 checks j k answer Unchanged
+  demand-apart unchanged (inl (d, f, q)) =
       record {
         refuses = λ e. (refused-by e, λ r. subst (FirstFits checks) (refused-same (sym (refused-by d f .0) ∙ r .0)) f);
         answers = (λ none. absurd (none d (first-fits f)), λ r. absurd (clash r));
@@ -44,8 +40,8 @@ module _ {A : Type 0} {checks : List Verdict} (below : (e : Refusal) → Fits ch
     where
       clash : ((a : A) × (answer ≡ found a)) ⊎ ((e : Refusal) × (answer ≡ refused e) × Under j k e) → ⊥
       clash (inl (a, r)) = found≢refused (sym r ∙ refused-by d f .0)
-      clash (inr (e, r, u)) = not-own d (first-fits f) (subst (Under j k) (refused-same (sym r ∙ refused-by d f .0)) u)
-  demand-1 unchanged (inr (none, q)) =
+      clash (inr (e, r, u)) = apart d (first-fits f) (subst (Under j k) (refused-same (sym r ∙ refused-by d f .0)) u)
+  demand-apart unchanged (inr (none, q)) =
       let a = is ∙ after-pass (firstRefusal checks) end q in
       record {
         refuses = λ e. (refused-by e, λ r. absurd (r .1 (own none e (sym a ∙ r .0))));
@@ -53,13 +49,22 @@ module _ {A : Type 0} {checks : List Verdict} (below : (e : Refusal) → Fits ch
         unchanged = unchanged;
       }
 
+-- as it is where their numbers are all smaller
+module _ {A : Type 0} {checks : List Verdict} (below : (e : Refusal) → Fits checks e → e .number < 15) {j k : ℕ} (first : 15 ≤ j) (second : 15 ≤ k) {end answer : Answer A} (own : NoneFits checks → (e : Refusal) → end ≡ refused e → Under j k e) (is : answer ≡ after (firstRefusal checks) end) where
+  not-own : (e : Refusal) → Fits checks e → Under j k e → ⊥
+  not-own e m (inl q) = let l = below e m in omega (arith, l, q, first)
+  not-own e m (inr q) = let l = below e m in omega (arith, l, q, second)
+
+  pub demand-1 : {Unchanged : Type 0} → ((e : Refusal) → answer ≡ refused e → Unchanged) → Decision checks → Demand1 checks j k answer Unchanged
+  demand-1 = demand-apart not-own own is
+
   -- a refusal under 15 or above is the walk's own
   pub own-refusal : (e : Refusal) → answer ≡ refused e → 15 ≤ e .number → NoneFits checks
   own-refusal e r h = ⊎-elim (λ some. absurd (clash (some .0) (some .1))) (λ other. other .0) (decision checks)
     where
       clash : (d : Refusal) → FirstFits checks d → ⊥
       clash d f =
-          let same : d .number ≡ e .number = ap (λ (x : Refusal). x .number) (refused-same (sym (refused-by d f .0) ∙ r)) in
+          let same : d .number ≡ e .number = ap (λ (x : Refusal). x .number) (refused-same (sym (refused-by not-own own is d f .0) ∙ r)) in
           omega (arith, below d (first-fits f), same, h)
 
 refuse-same : {d e : Refusal} → refuse d ≡ refuse e → d ≡ e

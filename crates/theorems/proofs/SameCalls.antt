@@ -18,7 +18,8 @@ use Rattle.definitions.specs.Listing.{collect, listWalk}
 use Rattle.definitions.specs.Seeds.{Plane, widened}
 use Rattle.definitions.specs.Refusals.{candidateLength}
 use Rattle.definitions.specs.Checks.{Verdict, refuse, pass, firstRefusal, refuseIf, lengthCheck, planeLengthCheck, targetCheck, finiteCheck, radiusCheck, handedOn, budgetCheck, candidateDistanceCheck, candidateOutsideCheck, widenedRadiusCheck, listSizeCheck}
-use Rattle.definitions.specs.Calls.{after, endOfNearest, nearestWithin, searchChecks, nearestChecks, nearest, widenedSearch, seededChecks, nearestSeeded, mlRadius, mlChecks, nearestMl, endOfList, listChecks, list, plane, planeOutput, planeCoefficients}
+use Rattle.definitions.specs.Calls.{after, endOfNearest, nearestWithin, targetChecks, searchChecks, nearestChecks, nearest, widenedSearch, seededChecks, nearestSeeded, mlRadius, mlChecks, nearestMl, endOfList, listChecks, list, plane, planeOutput, planeCoefficients}
+use Rattle.definitions.specs.Prepared.{matrixChecks, transformedOf, preparedChecks, mappedAnswer, preparedNearestMl}
 use Rattle.definitions.proofs.Verdicts.{orElse, first-append}
 use Rattle.theorems.specs.SameRead.{SameRead}
 use Rattle.theorems.proofs.SameDistances.{same-center, same-partial}
@@ -119,6 +120,18 @@ module _ (t : Table) (mu′ : List Float) (same : SameRead t (table (t .weights)
   plane-coefficients-of pass = ap (λ (s : Plane). s .left) (same-plane t mu′ same target)
   plane-coefficients-of (refuse e) = refl
 
+prepared-of : (t : Table) (mu′ : List Float) → SameRead t (table (t .weights) mu′) → (transform inverse : List ℤ) (target : List Float) (out : List ℤ) (budget : ℕ) → preparedNearestMl t transform inverse target out budget ≡ preparedNearestMl (table (t .weights) mu′) transform inverse target out budget
+unfolding preparedNearestMl preparedChecks
+prepared-of t mu′ same transform inverse target out budget =
+    let n = dimension t in
+    let x = transformedOf t inverse target in
+    let radius = same-ml-radius t mu′ same x in
+    let search = widened-search t mu′ same x (mlRadius t x) budget ∙ ap (λ (R : Float). widenedSearch (table (t .weights) mu′) x R budget) radius in
+    λ k.
+    after
+    (firstRefusal (same-table-checks t mu′ same largestDimension k ++ matrixChecks n transform inverse ++ targetChecks n target out ++ targetCheck x ∷ budgetCheck budget ∷ candidateDistanceCheck (radius k) ∷ widenedRadiusCheck (widened n (radius k)) ∷ []))
+    (mappedAnswer n transform (search k))
+
 -- ---- two tables
 module _ {t t′ : Table} (same : SameRead t t′) where
   -- a law of tables that differ in mu alone
@@ -138,6 +151,10 @@ module _ {t t′ : Table} (same : SameRead t t′) where
 
   pub same-ml : (target : List Float) (out : List ℤ) (budget : ℕ) → nearestMl t target out budget ≡ nearestMl t′ target out budget
   same-ml target out budget = of-mu (λ x. nearestMl t target out budget ≡ nearestMl x target out budget) λ mu′ s. ml-of t mu′ s target out budget
+
+  pub same-prepared : (transform inverse : List ℤ) (target : List Float) (out : List ℤ) (budget : ℕ) → preparedNearestMl t transform inverse target out budget ≡ preparedNearestMl t′ transform inverse target out budget
+  same-prepared transform inverse target out budget =
+      of-mu (λ y. preparedNearestMl t transform inverse target out budget ≡ preparedNearestMl y transform inverse target out budget) λ mu′ s. prepared-of t mu′ s transform inverse target out budget
 
   pub same-list : (target distances : List Float) (points : List ℤ) (R : Float) (budget : ℕ) → list t target distances points R budget ≡ list t′ target distances points R budget
   same-list target distances points R budget =

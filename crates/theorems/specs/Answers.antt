@@ -67,7 +67,7 @@ NoMinusZero e = List·Memᴰ (real minusZero) (e .values) → ⊥
 abbrev pub Under : ℕ → ℕ → Refusal → Type 0
 Under j k e = (e .number ≡ j) ⊎ (e .number ≡ k)
 
--- what promise 1 says of a call with these checks, whose walk can end it under j and k, which may be the same; `Unchanged` says that the slices at exit hold what they held
+-- what promise 1 says of a call with these checks, which the search can end under j and k, which may be the same; `Unchanged` says that the slices at exit hold what they held
 pub record Demand1 {A : Type 0} (checks : List Verdict) (j k : ℕ) (answer : Answer A) (Unchanged : Type 0) : Type 0 where
   -- refused under a number other than j and k exactly by the first check that fits, with its number and its values
   pub refuses : (e : Refusal) → FirstFits checks e ↔ ((answer ≡ refused e) × (Under j k e → ⊥))

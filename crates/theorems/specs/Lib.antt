@@ -9,6 +9,7 @@ pub mod Refusals
 pub mod Answers
 pub mod Accepted
 pub mod Promises
+pub mod Prepared
 pub mod Settings
 pub mod Ratios
 pub mod Reference

@@ -41,7 +41,7 @@ rising low (n ∷ ns) = leb low n && rising n ns
 abbrev pub FirstIsLeast : List Verdict → Type 0
 FirstIsLeast checks = (e d : Refusal) → FirstFits checks e → Fits checks d → e .number ≤ d .number
 
--- ---- the index that 3, 4, 5, 7 and 20 carry
+-- ---- the index that a refusal carries
 -- the first index: one of these, with the fault, and none of them that is smaller has it
 pub record FirstFault (Index : ℕ → Type 0) (fault : ℕ → Bool) (i : ℕ) : Type 0 where
   pub index : Index i

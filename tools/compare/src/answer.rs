@@ -55,7 +55,7 @@ impl Answer {
 pub fn before(case: &Case) -> (Vec<i64>, Vec<u64>) {
     let integers = |n| (0..n).map(integer_pattern).collect();
     match case.call {
-        Call::Nearest | Call::Seeded | Call::Ml | Call::Round => (integers(case.places), Vec::new()),
+        Call::Nearest | Call::Seeded | Call::Ml | Call::Prepared | Call::Round => (integers(case.places), Vec::new()),
         Call::List => (integers(case.points), (0..case.places).map(double_pattern).collect()),
         Call::Plane => (integers(case.places), case.target.iter().map(|x| x.to_bits()).collect()),
         Call::RoundAway | Call::Distance => (Vec::new(), Vec::new()),

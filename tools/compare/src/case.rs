@@ -1,5 +1,6 @@
 //! A case: one call with all its arguments.
 
+use crate::matrices::Pair;
 use std::fmt;
 
 #[derive(Clone, Copy, PartialEq, Eq, Debug)]
@@ -7,6 +8,7 @@ pub enum Call {
     Nearest,
     Seeded,
     Ml,
+    Prepared,
     List,
     Round,
     Plane,
@@ -14,9 +16,9 @@ pub enum Call {
     Distance,
 }
 
-use Call::{Distance, List, Ml, Nearest, Plane, Round, RoundAway, Seeded};
+use Call::{Distance, List, Ml, Nearest, Plane, Prepared, Round, RoundAway, Seeded};
 
-pub const CALLS: [Call; 8] = [Nearest, Seeded, Ml, List, Round, Plane, RoundAway, Distance];
+pub const CALLS: [Call; 9] = [Nearest, Seeded, Ml, Prepared, List, Round, Plane, RoundAway, Distance];
 
 impl Call {
     /// The name that the oracle's lines have for it.
@@ -26,6 +28,7 @@ impl Call {
             Nearest => "nearest",
             Seeded => "nearest_seeded",
             Ml => "nearest_ml",
+            Prepared => "prepared_nearest_ml",
             List => "list",
             Round => "round",
             Plane => "nearest_plane",
@@ -46,12 +49,17 @@ impl Call {
 
     #[must_use]
     pub const fn takes_budget(self) -> bool {
-        matches!(self, Nearest | Seeded | Ml | List)
+        matches!(self, Nearest | Seeded | Ml | Prepared | List)
     }
 
     #[must_use]
     pub const fn takes_candidate(self) -> bool {
         matches!(self, Seeded | Distance)
+    }
+
+    #[must_use]
+    pub const fn takes_matrices(self) -> bool {
+        matches!(self, Prepared)
     }
 }
 
@@ -71,16 +79,21 @@ pub struct Case {
     pub places: usize,
     /// The length of the points of `list`.
     pub points: usize,
+    /// Row by row; empty unless the call takes matrices.
+    pub transform: Vec<i64>,
+    pub inverse: Vec<i64>,
 }
 
 impl Case {
-    /// A call over a table with an output that fits it; a list has as many places as the table has dimensions.
+    /// A call over a table with an output that fits it; a list has as many places as the table has dimensions, and
+    /// matrices change nothing.
     #[must_use]
     pub fn new(call: Call, weights: &[f64], mu: &[f64], target: &[f64], radius: f64, budget: u64) -> Self {
         let n = weights.len();
         let candidate = vec![0; n];
         let (weights, mu, target) = (weights.to_vec(), mu.to_vec(), target.to_vec());
-        Self { call, weights, mu, target, radius, budget, candidate, places: n, points: n * n }
+        let Pair { transform, inverse, .. } = Pair::identity(if call.takes_matrices() { n } else { 0 });
+        Self { call, weights, mu, target, radius, budget, candidate, places: n, points: n * n, transform, inverse }
     }
 
     #[must_use]
@@ -95,6 +108,17 @@ impl Case {
         self.candidate = candidate.to_vec();
         self
     }
+
+    #[must_use]
+    pub fn with_matrices(mut self, transform: &[i64], inverse: &[i64]) -> Self {
+        (self.transform, self.inverse) = (transform.to_vec(), inverse.to_vec());
+        self
+    }
+
+    #[must_use]
+    pub fn with_pair(self, pair: &Pair) -> Self {
+        self.with_matrices(&pair.transform, &pair.inverse)
+    }
 }
 
 fn items<T>(list: &[T], item: impl Fn(&T) -> String) -> String {
@@ -105,7 +129,12 @@ fn bits(list: &[f64]) -> String {
     items(list, |x| format!("{:016x}", x.to_bits()))
 }
 
-/// The oracle's line. The length of a list's points has no field there, and a table of the wrong size is none to it.
+fn integers(list: &[i64]) -> String {
+    items(list, i64::to_string)
+}
+
+/// The oracle's line. The length of a list's points has no field there, and a table or matrices of the wrong size are none
+/// to it.
 impl fmt::Display for Case {
     fn fmt(&self, out: &mut fmt::Formatter<'_>) -> fmt::Result {
         write!(
@@ -118,8 +147,12 @@ impl fmt::Display for Case {
             bits(&self.target),
             self.radius.to_bits(),
             self.budget,
-            items(&self.candidate, i64::to_string),
+            integers(&self.candidate),
             self.places
-        )
+        )?;
+        if self.call.takes_matrices() {
+            write!(out, " {} {}", integers(&self.transform), integers(&self.inverse))?;
+        }
+        Ok(())
     }
 }

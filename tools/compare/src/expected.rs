@@ -15,7 +15,7 @@ pub struct Expected {
 }
 
 /// The refusals that the Rust does not have; 18 is seen only when it has listed.
-const ADDED: [u32; 6] = [2, 3, 4, 5, 9, 14];
+const ADDED: [u32; 8] = [2, 3, 4, 5, 9, 14, 22, 23];
 
 /// No refusal: it stands where the Rust names an error that the specification has no place for.
 const UNKNOWN: u32 = u32::MAX;
@@ -34,7 +34,7 @@ pub fn expected(case: &Case) -> Expected {
         }
         (None, Ok(answer)) => Expected { disagreement: second_reading(case, &answer), answer },
         (None, Err(error)) => {
-            let report = search_refusal(case.call, error);
+            let report = search_refusal(case, error);
             let stray = report.number == UNKNOWN;
             let disagreement = stray.then(|| format!("the reading takes the call, the Rust says {error:?}"));
             Expected { answer: Answer::untouched(case, report), disagreement }
@@ -67,27 +67,52 @@ fn agrees(error: DecodeError, report: Report) -> bool {
     numbers.contains(&report.number) && Report { number: 0, ..report } == same
 }
 
-/// 15 and 16, which a walk ends with. A seeded or ml search never ends with 16: there it is a disagreement.
-fn search_refusal(call: Call, error: DecodeError) -> Report {
-    match (error, call) {
+/// 15 and 16, which a walk ends with, and 24. A seeded or ml search never ends with 16: there it is a disagreement.
+fn search_refusal(case: &Case, error: DecodeError) -> Report {
+    match (error, case.call) {
         (DecodeError::BudgetExhausted { nodes, radius_sq }, _) => {
             Report { number: 15, first: nodes, second: 0, real: minus_as_plus(radius_sq).to_bits() }
         }
         (DecodeError::OutsideRadius { radius_sq }, Call::Nearest) => Report::double(16, minus_as_plus(radius_sq)),
+        (DecodeError::Range(_), Call::Prepared) => beyond_i64(case).unwrap_or(Report::whole(UNKNOWN, 0, 0)),
         _ => Report::whole(UNKNOWN, 0, 0),
     }
+}
+
+/// The Rust's `nearest_ml` at the transformed target of the plain reading: the prepared search before it maps.
+fn reduced(case: &Case) -> oracle::Found {
+    let table = Enumerator::from_table(&case.weights, &case.mu);
+    oracle::nearest_ml(&table, &paper::transformed(case), case.places, case.budget)
+}
+
+/// 24. The Rust names no column, so the point is mapped here.
+fn beyond_i64(case: &Case) -> Option<Report> {
+    let (point, ..) = reduced(case).ok()?;
+    let column = paper::mapped(&point, &case.transform).iter().position(|z| i64::try_from(*z).is_err());
+    column.map(|c| Report::whole(24, c as u64, 0))
+}
+
+/// Whether the answer is what the search before mapping comes to, its point mapped and its distance read plainly.
+fn same_mapped(case: &Case, answer: &Answer) -> bool {
+    let Ok((point, nodes, distance)) = reduced(case) else { return false };
+    let plain = paper::distance(&case.weights, &case.mu, &paper::transformed(case), &point);
+    let mapped = paper::mapped(&point, &case.transform);
+    answer.report == Report::found(nodes, distance)
+        && plain.to_bits() == distance.to_bits()
+        && mapped.into_iter().eq(answer.integers.iter().copied().map(i128::from))
 }
 
 /// The Rust's answer to a case whose table passes checks 2 to 5.
 fn rust(case: &Case) -> Result<Answer, DecodeError> {
     let table = Enumerator::from_table(&case.weights, &case.mu);
-    let Case { target, places, radius, budget, candidate, .. } = case;
+    let Case { target, places, radius, budget, candidate, transform, inverse, .. } = case;
     let plain = |integers| Answer { report: Report::default(), integers, doubles: Vec::new() };
     let found = |(integers, nodes, distance)| Answer { report: Report::found(nodes, distance), ..plain(integers) };
     match case.call {
         Call::Nearest => oracle::nearest(&table, target, *places, *radius, *budget).map(found),
         Call::Seeded => oracle::nearest_seeded(&table, target, *places, candidate, *radius, *budget).map(found),
         Call::Ml => oracle::nearest_ml(&table, target, *places, *budget).map(found),
+        Call::Prepared => oracle::prepared_nearest_ml(&table, transform, inverse, target, *places, *budget).map(found),
         Call::List => listed(case, &table),
         Call::Round => oracle::round(target, *places).map(plain),
         Call::Plane => oracle::nearest_plane(&table, target, *places)
@@ -135,6 +160,7 @@ fn second_reading(case: &Case, answer: &Answer) -> Option<String> {
         }
         Call::Distance => same_distance(&case.candidate),
         Call::Nearest | Call::Seeded | Call::Ml => same_distance(&answer.integers),
+        Call::Prepared => same_mapped(case, answer),
         Call::List if answer.report.number == 0 => least_budget(case, answer.report.first),
         _ => true,
     };

@@ -6,6 +6,7 @@ pub mod case;
 pub mod expected;
 pub mod job;
 pub mod listed;
+pub mod matrices;
 pub mod paper;
 pub mod port;
 pub mod random;

@@ -9,6 +9,8 @@ pub const LIMIT: f64 = 4_503_599_627_370_496.0;
 pub const LARGEST_N: usize = 23;
 pub const MOST_NODES: u64 = 1 << 60;
 pub const MOST_PLACES: usize = 4096;
+/// 2^52, the largest magnitude of a matrix's entry.
+pub const LARGEST_ENTRY: u64 = 1 << 52;
 
 /// The nearest integer, halves away from zero, held within i64; 0 for NaN.
 #[must_use]
@@ -59,6 +61,22 @@ pub fn widened(radius: f64, n: usize) -> f64 {
     radius + (f64::EPSILON * larger) * (4 * n) as f64
 }
 
+/// The target at which a prepared search walks. Each sum starts from 0 and takes the rows as they rise.
+#[must_use]
+pub fn transformed(case: &Case) -> Vec<f64> {
+    let n = case.weights.len();
+    let column = |c| (0..n).fold(0.0, |sum, row| sum + case.target[row] * case.inverse[row * n + c] as f64);
+    (0..n).map(column).collect()
+}
+
+/// The point through the matrix, exactly: with entries up to 2^52 no sum comes near the ends of i128.
+#[must_use]
+pub fn mapped(point: &[i64], matrix: &[i64]) -> Vec<i128> {
+    let n = point.len();
+    let product = |row: usize, c| i128::from(point[row]) * i128::from(matrix[row * n + c]);
+    (0..n).map(|c| (0..n).map(|row| product(row, c)).sum()).collect()
+}
+
 /// Counts the prefixes that are opened at a radius.
 struct Opened<'a> {
     case: &'a Case,
@@ -105,15 +123,19 @@ pub fn opened(case: &Case, radius: f64, cap: u64) -> Option<u64> {
 
 // ---- the checks
 
-/// The first of refusals 2 to 14 that fits the case.
+/// The first of refusals 2 to 14, 22 and 23 that fits the case.
 #[must_use]
 pub fn refusal(case: &Case) -> Option<Report> {
     let table = || if case.call.takes_table() { table(case) } else { None };
     let radius = || if case.call.takes_radius() { radius(case) } else { None };
     let budget = || if case.call.takes_budget() { budget(case) } else { None };
+    let matrices = || if case.call.takes_matrices() { matrices(case) } else { None };
+    let transformed = || if case.call.takes_matrices() { target(&reduced(case)) } else { None };
     table()
+        .or_else(matrices)
         .or_else(|| lengths(case))
         .or_else(|| target(case))
+        .or_else(transformed)
         .or_else(radius)
         .or_else(budget)
         .or_else(|| seed(case))
@@ -136,6 +158,29 @@ fn table(case: &Case) -> Option<Report> {
         .or_else(|| index(5, case.weights.iter().position(|w| !w.is_finite() || *w <= 0.0)))
 }
 
+/// 22 and 23.
+fn matrices(case: &Case) -> Option<Report> {
+    let n = case.weights.len();
+    let (transform, inverse) = (&case.transform, &case.inverse);
+    if transform.len() != n * n || inverse.len() != n * n {
+        return Some(Report::whole(22, 0, 0));
+    }
+    let large = transform.iter().chain(inverse).position(|z| z.unsigned_abs() > LARGEST_ENTRY);
+    let inverse_to_each_other = || undone(n, transform, inverse) && undone(n, inverse, transform);
+    index(22, large).or_else(|| (!inverse_to_each_other()).then(|| Report::whole(23, 0, 0)))
+}
+
+/// Whether the product is the identity, row by row.
+fn undone(n: usize, first: &[i64], second: &[i64]) -> bool {
+    let unit = |row| (0..n).map(move |c| i128::from(row == c));
+    (0..n).all(|row| mapped(&first[row * n..][..n], second).into_iter().eq(unit(row)))
+}
+
+/// What a prepared search walks for.
+fn reduced(case: &Case) -> Case {
+    Case { call: Call::Ml, target: transformed(case), ..case.clone() }
+}
+
 /// 6. The point whose distance is asked stands in the output's place.
 fn lengths(case: &Case) -> Option<Report> {
     let n = case.weights.len();
@@ -149,7 +194,7 @@ fn lengths(case: &Case) -> Option<Report> {
         Call::Plane if target != n || places != n => mismatch(n, target),
         _ if target != n => mismatch(n, target),
         Call::Distance if case.candidate.len() != n => mismatch(n, case.candidate.len()),
-        Call::Nearest | Call::Seeded | Call::Ml if places != n => mismatch(n, places),
+        Call::Nearest | Call::Seeded | Call::Ml | Call::Prepared if places != n => mismatch(n, places),
         _ => None,
     }
 }
@@ -190,6 +235,7 @@ fn seed(case: &Case) -> Option<Report> {
             let d = of(&plane(&case.mu, &mut case.target.clone()));
             overflow(d).or_else(|| beyond(d, n))
         }
+        Call::Prepared => seed(&reduced(case)),
         Call::Distance => overflow(of(&case.candidate)),
         _ => None,
     }

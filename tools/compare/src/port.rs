@@ -16,6 +16,10 @@ unsafe extern "C" {
     fn snowgimmer_nearest_ml(weights: *const f64, weights_len: usize, mu: *const f64, mu_len: usize,
         target: *const f64, target_len: usize, out: *mut i64, out_len: usize, budget: u64,
         first: *mut u64, second: *mut u64, real: *mut f64) -> u32;
+    fn snowgimmer_prepared_nearest_ml(weights: *const f64, weights_len: usize, mu: *const f64, mu_len: usize,
+        transform: *const i64, transform_len: usize, inverse: *const i64, inverse_len: usize, target: *const f64,
+        target_len: usize, out: *mut i64, out_len: usize, budget: u64,
+        first: *mut u64, second: *mut u64, real: *mut f64) -> u32;
     fn snowgimmer_list(weights: *const f64, weights_len: usize, mu: *const f64, mu_len: usize,
         target: *const f64, target_len: usize, distances: *mut f64, distances_len: usize, points: *mut i64,
         points_len: usize, radius: f64, budget: u64, first: *mut u64, second: *mut u64, real: *mut f64) -> u32;
@@ -88,6 +92,8 @@ struct Slices {
     mu: Lent,
     target: Lent,
     candidate: Lent,
+    transform: Lent,
+    inverse: Lent,
     integers: Lent,
     doubles: Lent,
 }
@@ -100,6 +106,8 @@ impl Slices {
             mu: Lent::of_doubles(&case.mu),
             target: Lent::of_doubles(&case.target),
             candidate: Lent::of_integers(&case.candidate),
+            transform: Lent::of_integers(&case.transform),
+            inverse: Lent::of_integers(&case.inverse),
             integers: Lent::of_integers(&integers),
             doubles: Lent::new(doubles.into_iter()),
         }
@@ -112,6 +120,8 @@ impl Slices {
             (self.mu.same(), "mu was changed"),
             (self.target.same(), "the target was changed"),
             (self.candidate.same(), "the candidate was changed"),
+            (self.transform.same(), "the transform was changed"),
+            (self.inverse.same(), "the inverse was changed"),
             (self.integers.guarded(), "a cell beside the output was changed"),
             (self.doubles.guarded(), "a cell beside the distances or coefficients was changed"),
         ];
@@ -139,6 +149,8 @@ fn call(case: &Case, slices: &mut Slices) -> Report {
     let (m, mn) = slices.mu.doubles();
     let (t, tn) = slices.target.doubles();
     let (c, cn) = slices.candidate.integers();
+    let (p, pn) = slices.transform.integers();
+    let (q, qn) = slices.inverse.integers();
     let (o, on) = slices.integers.integers();
     let (d, dn) = slices.doubles.doubles();
     let (r, b) = (case.radius, case.budget);
@@ -151,6 +163,7 @@ fn call(case: &Case, slices: &mut Slices) -> Report {
             Call::Nearest => snowgimmer_nearest(w, wn, m, mn, t, tn, o, on, r, b, f, s, x),
             Call::Seeded => snowgimmer_nearest_seeded(w, wn, m, mn, t, tn, o, on, c, cn, r, b, f, s, x),
             Call::Ml => snowgimmer_nearest_ml(w, wn, m, mn, t, tn, o, on, b, f, s, x),
+            Call::Prepared => snowgimmer_prepared_nearest_ml(w, wn, m, mn, p, pn, q, qn, t, tn, o, on, b, f, s, x),
             Call::List => snowgimmer_list(w, wn, m, mn, t, tn, d, dn, o, on, r, b, f, s, x),
             Call::Round => snowgimmer_round(t, tn, o, on, f, s, x),
             Call::Plane => snowgimmer_nearest_plane(w, wn, m, mn, d, dn, o, on, f, s, x),
@@ -170,6 +183,20 @@ pub fn nearest_ml(case: &Case, out: &mut [i64]) -> Report {
     let number = unsafe {
         snowgimmer_nearest_ml(w.as_ptr(), w.len(), m.as_ptr(), m.len(), t.as_ptr(), t.len(), out.as_mut_ptr(),
             out.len(), *budget, &raw mut first, &raw mut second, &raw mut real)
+    };
+    Report { number, first, second, real: real.to_bits() }
+}
+
+/// `prepared_nearest_ml` without guards, for timing.
+pub fn prepared_nearest_ml(case: &Case, out: &mut [i64]) -> Report {
+    let Case { weights: w, mu: m, target: t, transform: p, inverse: q, budget, .. } = case;
+    let (mut first, mut second, mut real) = (0, 0, 0.0);
+    // SAFETY: as above.
+    #[rustfmt::skip]
+    let number = unsafe {
+        snowgimmer_prepared_nearest_ml(w.as_ptr(), w.len(), m.as_ptr(), m.len(), p.as_ptr(), p.len(), q.as_ptr(),
+            q.len(), t.as_ptr(), t.len(), out.as_mut_ptr(), out.len(), *budget,
+            &raw mut first, &raw mut second, &raw mut real)
     };
     Report { number, first, second, real: real.to_bits() }
 }

@@ -1,5 +1,7 @@
 //! Random cases: each is fixed by the run's seed and its own number.
 
+mod prepared;
+
 use crate::case::{Call, Case};
 use crate::paper::{self, LARGEST_N, LIMIT, MOST_NODES, MOST_PLACES};
 use crate::reach::{points, reach};
@@ -14,16 +16,21 @@ pub const LONG: u64 = 20_000;
 pub fn case(seed: u64, number: u64) -> Case {
     let rng = &mut Rng::of_case(seed, number);
     let call = match rng.below(100) {
-        0..22 => Call::Nearest,
-        22..42 => Call::Seeded,
-        42..60 => Call::Ml,
-        60..80 => Call::List,
-        80..84 => Call::Round,
-        84..92 => Call::Plane,
-        92..95 => Call::RoundAway,
+        0..20 => Call::Nearest,
+        20..38 => Call::Seeded,
+        38..52 => Call::Ml,
+        52..67 => Call::Prepared,
+        67..85 => Call::List,
+        85..88 => Call::Round,
+        88..94 => Call::Plane,
+        94..96 => Call::RoundAway,
         _ => Call::Distance,
     };
-    let mut case = if call.takes_table() { over_table(rng, call) } else { rounding(rng, call) };
+    let mut case = match call {
+        Call::Prepared => prepared::case(rng),
+        _ if call.takes_table() => over_table(rng, call),
+        _ => rounding(rng, call),
+    };
     let faults = match rng.below(100) {
         0..78 => 0,
         78..90 => 1,
@@ -171,6 +178,9 @@ pub const BAD_TARGETS: [f64; 5] = [f64::NAN, f64::NEG_INFINITY, LIMIT.next_up(),
 pub const BAD_BUDGETS: [u64; 5] = [MOST_NODES + 1, u64::MAX, 1 << 63, MOST_NODES + 2, 1 << 61];
 
 fn fault(rng: &mut Rng, case: &mut Case) {
+    if case.call.takes_matrices() && rng.once_in(2) {
+        return prepared::fault(rng, case);
+    }
     match rng.below(13) {
         0 => resize(rng, &mut case.weights, 1.0),
         1 => resize(rng, &mut case.mu, 0.0),

@@ -21,6 +21,8 @@ pub fn reach(case: &Case, cap: u64) -> Option<u64> {
         Call::Nearest => oracle::nearest(&table, target, *places, *radius, cap),
         Call::Seeded => oracle::nearest_seeded(&table, target, *places, candidate, *radius, cap),
         Call::Ml => oracle::nearest_ml(&table, target, *places, cap),
+        // Also where the point can't be mapped.
+        Call::Prepared => oracle::nearest_ml(&table, &paper::transformed(case), *places, cap),
         _ => return paper::opened(case, *radius, cap),
     };
     match found {

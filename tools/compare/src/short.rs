@@ -1,5 +1,7 @@
 //! Short cases, exhaustively around each boundary: every check's edge, and small grids at n = 0, 1 and 2.
 
+mod prepared;
+
 use crate::case::{CALLS, Call, Case};
 use crate::paper::{self, LARGEST_N, LIMIT, MOST_NODES, MOST_PLACES};
 use crate::reach::{points, reach};
@@ -24,6 +26,7 @@ pub fn cases(visit: Visit) {
     wide_centres(visit);
     long_lists(visit);
     list_orders(visit);
+    prepared::cases(visit);
 }
 
 fn with_neighbours(values: &[f64]) -> Vec<f64> {
@@ -387,7 +390,7 @@ fn at_the_ends(entry: f64, visit: Visit) {
         for (sign, radius) in [0.25, 0.5, 0.75].into_iter().flat_map(|r| [(1.0, r), (-1.0, r)]) {
             let mu = [0.0, 0.0, 0.0, sign * entry, 0.0, 0.0, beside, entry, 0.0];
             let case = |call| Case::new(call, &[weight, 1.0, 1.0], &mu, &[0.0, 0.0, 0.5], radius, MOST_NODES);
-            for call in [Call::Nearest, Call::Seeded, Call::Ml, Call::List] {
+            for call in [Call::Nearest, Call::Seeded, Call::Ml, Call::Prepared, Call::List] {
                 let z = paper::plane(&mu, &mut [0.0, 0.0, 0.5]);
                 let case = case(call).with_candidate(&z);
                 let count = reach(&case, 9_000);

@@ -1,6 +1,7 @@
 //! The smallest case that still shows a difference: dimensions are dropped and values replaced by simpler ones.
 
 use crate::case::{Call, Case};
+use crate::matrices::Pair;
 use crate::reach::reach;
 use std::time::{Duration, Instant};
 
@@ -67,6 +68,8 @@ pub fn smaller(case: &Case, budgets: bool) -> Vec<Case> {
         list.extend((0..n).map(|i| without(case, i)));
     }
     lengths(case, &mut list);
+    // Dimensions fall once the matrices are simple.
+    pairs(case, &mut list);
     list.extend(simpler(case.radius).into_iter().map(|radius| Case { radius, ..case.clone() }));
     if budgets {
         room(case, &mut list);
@@ -83,14 +86,98 @@ pub fn smaller(case: &Case, budgets: bool) -> Vec<Case> {
     doubles(|c| &mut c.target);
     doubles(|c| &mut c.mu);
     doubles(|c| &mut c.weights);
-    for k in 0..case.candidate.len() {
-        for z in simpler_integers(case.candidate[k]) {
-            let mut c = case.clone();
-            c.candidate[k] = z;
-            list.push(c);
+    let mut integers = |get: fn(&mut Case) -> &mut Vec<i64>| {
+        for k in 0..get(&mut case.clone()).len() {
+            for z in simpler_integers(get(&mut case.clone())[k]) {
+                let mut c = case.clone();
+                get(&mut c)[k] = z;
+                list.push(c);
+            }
+        }
+    };
+    integers(|c| &mut c.candidate);
+    integers(|c| &mut c.transform);
+    integers(|c| &mut c.inverse);
+    list
+}
+
+/// The case with other matrices, which are inverse to each other if its own are.
+fn pairs(case: &Case, list: &mut Vec<Case>) {
+    let n = case.weights.len();
+    if !case.call.takes_matrices() || case.transform.len() != n * n || case.inverse.len() != n * n {
+        return;
+    }
+    let pair = Pair { n, transform: case.transform.clone(), inverse: case.inverse.clone() };
+    let mut add = |next: Pair, target: Vec<f64>| {
+        if size(&next) < size(&pair) {
+            list.push(Case { target, ..case.clone().with_pair(&next) });
+        }
+    };
+    add(Pair::identity(n), case.target.clone());
+    rows(&pair, &mut |next| add(next, case.target.clone()));
+    columns(&pair, &case.target, &mut add);
+}
+
+/// A multiple of a row of the transform taken from another one, two exchanged, the signs of one changed.
+fn rows(pair: &Pair, add: &mut dyn FnMut(Pair)) {
+    let Pair { n, transform, inverse } = pair;
+    let mut changed = |change: &dyn Fn(&mut Pair)| {
+        let mut next = pair.clone();
+        change(&mut next);
+        add(next);
+    };
+    for (to, from) in (0..n * n).map(|k| (k / n, k % n)) {
+        if to == from {
+            changed(&|next| next.negate(to));
+            continue;
+        }
+        changed(&|next| next.swap(to, from));
+        // The whole quotient at once: a step by one would be taken as often as the quotient says.
+        let above = |k: usize| transform[n * to + k].checked_div(transform[n * from + k]);
+        let below = |k: usize| inverse[n * k + from].checked_div(inverse[n * k + to]).map(i64::saturating_neg);
+        let mut factors: Vec<i64> = (0..*n).map(above).chain((0..*n).map(below)).flatten().collect();
+        factors.sort_unstable();
+        factors.dedup();
+        for factor in factors.into_iter().map(i64::saturating_neg).filter(|factor| saves(pair, to, from, *factor)) {
+            changed(&|next| _ = next.add(to, from, factor));
         }
     }
-    list
+}
+
+/// Whether the magnitudes are less in all once a multiple is added: so that not every multiple makes a pair.
+fn saves(pair: &Pair, to: usize, from: usize, factor: i64) -> bool {
+    let Pair { n, transform, inverse } = pair;
+    let size = |factor: i128| -> u128 {
+        let above = |k: usize| i128::from(transform[n * to + k]) + factor * i128::from(transform[n * from + k]);
+        let below = |k: usize| i128::from(inverse[n * k + from]) - factor * i128::from(inverse[n * k + to]);
+        let both = (0..*n).flat_map(|k| [above(k).unsigned_abs(), below(k).unsigned_abs()]);
+        both.fold(0, u128::saturating_add)
+    };
+    size(factor.into()) < size(0)
+}
+
+/// Two columns of the transform exchanged or the signs of one changed, and the target with them: so the search stays.
+fn columns(pair: &Pair, target: &[f64], add: &mut dyn FnMut(Pair, Vec<f64>)) {
+    let n = pair.n.min(target.len());
+    for (i, j) in (0..n).flat_map(|i| (i..n).map(move |j| (i, j))) {
+        let (mut next, mut target) = (pair.clone().exchanged(), target.to_vec());
+        if i == j {
+            next.negate(i);
+            target[i] = -target[i];
+        } else {
+            next.swap(i, j);
+            target.swap(i, j);
+        }
+        add(next.exchanged(), target);
+    }
+}
+
+/// The sum of the magnitudes, and how many entries are not the identity's.
+fn size(pair: &Pair) -> (u128, usize) {
+    let entries = pair.transform.iter().chain(&pair.inverse);
+    let units = Pair::identity(pair.n).transform.repeat(2);
+    let other = entries.clone().zip(&units).filter(|(z, unit)| z != unit).count();
+    (entries.map(|z| u128::from(z.unsigned_abs())).sum(), other)
 }
 
 /// The case without coordinate `i`; lengths that were off stay off by as much.
@@ -98,7 +185,12 @@ fn without(case: &Case, i: usize) -> Case {
     let n = case.weights.len();
     let mut c = case.clone();
     c.weights.remove(i);
-    c.mu = (0..n * n).filter(|k| k / n != i && k % n != i).map(|k| case.mu[k]).collect();
+    let other = |k: &usize| k / n != i && k % n != i;
+    c.mu = (0..n * n).filter(other).map(|k| case.mu[k]).collect();
+    for matrix in [&mut c.transform, &mut c.inverse] {
+        // What a matrix has too much it keeps.
+        *matrix = (0..matrix.len()).filter(|k| *k >= n * n || other(k)).map(|k| matrix[k]).collect();
+    }
     if i < c.target.len() {
         c.target.remove(i);
     }
@@ -127,6 +219,12 @@ fn lengths(case: &Case, list: &mut Vec<Case>) {
     }
     if case.target.len() > n.max(1) {
         add(&|c| c.target.truncate(c.target.len() - 1));
+    }
+    if case.transform.len() > n * n {
+        add(&|c| c.transform.truncate(n * n));
+    }
+    if case.inverse.len() > n * n {
+        add(&|c| c.inverse.truncate(n * n));
     }
     if case.call != Call::List && case.places > n {
         add(&|c| c.places -= 1);
@@ -159,5 +257,5 @@ fn shorter(y: f64, x: f64) -> bool {
 }
 
 fn simpler_integers(z: i64) -> Vec<i64> {
-    [0, 1, -1, z / 2].into_iter().filter(|s| s.unsigned_abs() < z.unsigned_abs() || (*s >= 0 && *s == -z)).collect()
+    [0, 1, -1, z / 2].into_iter().filter(|s| s.unsigned_abs() < z.unsigned_abs() || (*s > 0 && *s == -z)).collect()
 }

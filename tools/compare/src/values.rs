@@ -96,7 +96,7 @@ pub fn table(rng: &mut Rng) -> Table {
 }
 
 /// A last centre of about 2^52 to 2^64 on either side, where up to 1,024 integers have one double.
-fn wide(rng: &mut Rng) -> Table {
+pub fn wide(rng: &mut Rng) -> Table {
     let n = 3 + rng.below(3);
     let mut mu = vec![0.0; n * n];
     let (first, both) = (1 + rng.below(40), 53 + rng.below(13));

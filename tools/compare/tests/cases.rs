@@ -1,36 +1,17 @@
 //! The specification's bench cases A to L: the answers that it gives, of the port and of what the comparison expects; a
-//! distance by its bits; a radius of minus zero; and the list beside a nearest point.
+//! distance by its bits; a radius of minus zero; the list beside a nearest point; and the steps to a smaller case.
 
-use compare::answer::{Answer, Report, before};
+mod common;
+
+use common::{answers, differs, exhausted, found, refused};
+use compare::answer::{Answer, Report};
 use compare::case::{Call, Case};
 use compare::listed::listed;
-use compare::{Comparison, compare, compare_with};
+use compare::{Comparison, compare, random, shrink};
 
 const ULP: f64 = f64::EPSILON;
 const LIMIT: f64 = 4_503_599_627_370_496.0;
 const HALF: f64 = 0.5;
-
-/// Both must answer with this report, and with these numbers at the front of the slices.
-fn answers(case: &Case, report: Report, integers: &[i64], doubles: &[f64]) {
-    let (mut z, mut x) = before(case);
-    z.splice(..integers.len().min(z.len()), integers.iter().copied());
-    x.splice(..doubles.len(), doubles.iter().map(|d| d.to_bits()));
-    let Comparison { expected, difference, .. } = compare(case);
-    assert!(difference.is_none(), "{case}");
-    assert_eq!(expected, Answer { report, integers: z, doubles: x }, "{case}");
-}
-
-fn found(case: &Case, point: &[i64], nodes: u64, distance: f64) {
-    answers(case, Report::found(nodes, distance), point, &[]);
-}
-
-fn refused(case: &Case, report: Report) {
-    answers(case, report, &[], &[]);
-}
-
-fn exhausted(nodes: u64, radius: f64) -> Report {
-    Report { number: 15, first: nodes, second: 0, real: radius.to_bits() }
-}
 
 fn one(call: Call, weight: f64, target: f64, radius: f64, budget: u64) -> Case {
     Case::new(call, &[weight], &[0.0], &[target], radius, budget)
@@ -184,10 +165,6 @@ fn other_minus_zeros_stay() {
     }
 }
 
-fn differs(case: &Case, port: Answer) -> bool {
-    compare_with(case, port, Vec::new()).difference.is_some()
-}
-
 /// A port whose refusal or distance is minus zero for plus zero differs, and one that leaves plus zero for minus zero.
 #[test]
 fn signs_are_compared() {
@@ -249,4 +226,17 @@ fn lists_that_differ() {
     let above = Report::found(expected.report.first, 1.0 + ULP);
     assert_eq!(remarks(&Answer { report: above, ..expected.clone() }), 2);
     assert_eq!(remarks(&Answer { integers: vec![0, 2], ..expected }), 1);
+}
+
+// ---- the smallest case
+
+/// No step leaves a case as it is: that one would be taken until the time is over.
+#[test]
+fn every_step_is_a_change() {
+    let all = |case: &Case| (case.to_string(), case.points);
+    let drawn = (0..400).map(|number| random::case(3, number));
+    for case in drawn.filter(|case| case.weights.len() < 4) {
+        let same = shrink::smaller(&case, true).iter().any(|step| all(step) == all(&case));
+        assert!(!same, "{case}");
+    }
 }

@@ -2,6 +2,7 @@
 //! so far, and beside the calls' own check of the table that has these entries.
 
 use compare::case::{Call, Case};
+use compare::matrices::Pair;
 use compare::paper::LIMIT;
 use compare::port::run;
 use compare::rng::Rng;
@@ -100,7 +101,7 @@ impl Figures {
     /// 0, and in the end every call on the whole table.
     fn feed_table(&mut self, n: usize, mu: &[f64]) {
         let read: Vec<Entry> = (0..n * n).filter(|k| k / n > k % n).map(|k| (k, mu[k])).collect();
-        let mut case = Case::new(Call::Plane, &vec![1.0; n], mu, &vec![0.0; n], 0.0, 0);
+        let mut case = Case::new(Call::Plane, &vec![1.0; n], mu, &vec![0.0; n], 0.0, 0).with_pair(&Pair::identity(n));
         for (k, _) in &read {
             case.mu[*k] = 0.0;
         }
@@ -109,7 +110,7 @@ impl Figures {
             case.mu[k] = entry;
             assert_eq!(called(&case), verdict, "{case}");
         });
-        let calls = [Call::Plane, Call::Nearest, Call::Seeded, Call::Ml, Call::List, Call::Distance];
+        let calls = [Call::Plane, Call::Nearest, Call::Seeded, Call::Ml, Call::Prepared, Call::List, Call::Distance];
         for call in calls {
             case.call = call;
             assert_eq!(called(&case), verdict, "{case}");

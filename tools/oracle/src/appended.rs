@@ -23,6 +23,22 @@ impl<T: Int> Enumerator<T> {
     }
 }
 
+impl<T: Int> PreparedEnumerator<T> {
+    /// The search over a table and two matrices that are handed in, in the place of what `new` gets by reduction.
+    #[must_use]
+    pub const fn from_table(enumerator: Enumerator<T>, transform: IntMatrix<T>, inverse: IntMatrix<T>) -> Self {
+        Self { enumerator, transform, inverse }
+    }
+}
+
+impl PreparedEnumerationScratch {
+    /// What a search of n dimensions leaves here: the transformed target, and its point before that is mapped.
+    #[must_use]
+    pub fn reduced(&self, n: usize) -> (&[f64], &[i64]) {
+        (&self.transformed_target[..n], &self.reduced_point[..n])
+    }
+}
+
 /// A level's generator, which is private: its children, and the state after them.
 #[derive(Debug, Clone)]
 pub struct Zigzag(Children);

@@ -70,6 +70,25 @@ pub fn nearest_ml(table: &Enumerator, target: &[f64], places: usize, budget: u64
     found(table, target, out, nodes)
 }
 
+/// The prepared `nearest_ml` with an output of the given length; the matrices have n·n entries each, row by row. The
+/// distance is that of the point before it is mapped, at the transformed target: the search leaves both in its scratch.
+pub fn prepared_nearest_ml(
+    table: &Enumerator,
+    transform: &[i64],
+    inverse: &[i64],
+    target: &[f64],
+    places: usize,
+    budget: u64,
+) -> Found {
+    let matrix = |entries| int::IntMatrix::from_entries(table.dim(), entries);
+    let prepared = enumerate::PreparedEnumerator::from_table(table.clone(), matrix(transform), matrix(inverse));
+    let mut out = vec![0; places];
+    let scratch = &mut enumerate::PreparedEnumerationScratch::new();
+    let nodes = prepared.nearest_ml(target, &mut out, budget, scratch)?;
+    let (target, point) = scratch.reduced(table.dim());
+    Ok((out, nodes, table.triangular_distance(target, point)?))
+}
+
 /// The points of `list` with their distances, and the nodes of its walk: the least budget that it accepts.
 pub fn list(table: &Enumerator, target: &[f64], radius: f64, budget: u64) -> Listed {
     let listed = |budget| table.list(target, radius, budget, &mut enumerate::EnumerationScratch::new());

@@ -9,44 +9,50 @@ pub fn answer(line: &str) -> String {
     case(line).unwrap_or_else(|fault| format!("malformed {fault}"))
 }
 
+/// A line's fields but its call.
+struct Case {
+    table: Enumerator,
+    target: Vec<f64>,
+    radius: f64,
+    budget: u64,
+    candidate: Vec<i64>,
+    places: usize,
+    /// The transform and its inverse: only `prepared_nearest_ml` has to have them.
+    matrices: Option<[Vec<i64>; 2]>,
+}
+
 fn case(line: &str) -> Result<String, String> {
     let fields: Vec<&str> = line.split_whitespace().collect();
-    let [call, n, weights, mu, target, radius, budget, candidate, rest @ ..] = &fields[..] else {
+    let Some((call, fields)) = fields.split_first() else {
         return Err("line: fewer than 8 fields".into());
     };
-    let n: usize = decimal("n", n)?;
-    let weights = items("weights", weights, double)?;
-    let mu = items("mu", mu, double)?;
-    let target = items("target", target, double)?;
-    let radius = double("radius", radius)?;
-    let budget: u64 = decimal("budget", budget)?;
-    let candidate = items("candidate", candidate, decimal::<i64>)?;
-    let places = match rest {
-        [] => n,
-        [places] => decimal("places", places)?,
-        _ => return Err("line: more than 9 fields".into()),
-    };
-    if n > 23 || weights.len() != n || mu.len() != n * n {
-        return Err("table: n above 23, or not n weights and n·n entries".into());
-    }
-    let table = Enumerator::from_table(&weights, &mu);
-    Ok(match *call {
-        "nearest" => found(crate::nearest(&table, &target, places, radius, budget)),
-        "nearest_seeded" => found(crate::nearest_seeded(&table, &target, places, &candidate, radius, budget)),
-        "nearest_ml" => found(crate::nearest_ml(&table, &target, places, budget)),
-        "list" => text(crate::list(&table, &target, radius, budget), |(points, nodes)| {
+    called(call, &Case::read(fields)?)
+}
+
+fn called(call: &str, case: &Case) -> Result<String, String> {
+    let Case { table, target, radius, budget, candidate, places, matrices } = case;
+    let (radius, budget, places) = (*radius, *budget, *places);
+    Ok(match call {
+        "nearest" => found(crate::nearest(table, target, places, radius, budget)),
+        "nearest_seeded" => found(crate::nearest_seeded(table, target, places, candidate, radius, budget)),
+        "nearest_ml" => found(crate::nearest_ml(table, target, places, budget)),
+        "prepared_nearest_ml" => {
+            let [transform, inverse] = matrices.as_ref().ok_or("line: fewer than 11 fields")?;
+            found(crate::prepared_nearest_ml(table, transform, inverse, target, places, budget))
+        }
+        "list" => text(crate::list(table, target, radius, budget), |(points, nodes)| {
             let lines: String = points.iter().map(|(d, z)| format!(" {} {}", bits(*d), integers(z))).collect();
             format!("listed {nodes} {}{lines}", points.len())
         }),
-        "round" => text(crate::round(&target, places), |z| format!("rounded {}", integers(&z))),
-        "nearest_plane" => text(crate::nearest_plane(&table, &target, places), |(z, left)| {
+        "round" => text(crate::round(target, places), |z| format!("rounded {}", integers(&z))),
+        "nearest_plane" => text(crate::nearest_plane(table, target, places), |(z, left)| {
             format!("plane {} {}", integers(&z), doubles(&left))
         }),
         "triangular_distance" => {
-            if target.len() != n || candidate.len() != n {
+            if target.len() != table.dim() || candidate.len() != table.dim() {
                 return Err("target or candidate: not n long".into());
             }
-            text(table.triangular_distance(&target, &candidate), |d| format!("distance {}", bits(d)))
+            text(table.triangular_distance(target, candidate), |d| format!("distance {}", bits(d)))
         }
         "round_away" => {
             let z: Vec<i64> = target.iter().map(|&v| crate::rounded_away(v)).collect();
@@ -57,6 +63,38 @@ fn case(line: &str) -> Result<String, String> {
 }
 
 // ---- reading
+
+impl Case {
+    fn read(fields: &[&str]) -> Result<Self, String> {
+        let [n, weights, mu, target, radius, budget, candidate, rest @ ..] = fields else {
+            return Err("line: fewer than 8 fields".into());
+        };
+        let n: usize = decimal("n", n)?;
+        let weights = items("weights", weights, double)?;
+        let mu = items("mu", mu, double)?;
+        if n > 23 || weights.len() != n || mu.len() != n * n {
+            return Err("table: n above 23, or not n weights and n·n entries".into());
+        }
+        let matrix = |name, text| {
+            let entries = items(name, text, decimal::<i64>)?;
+            if entries.len() == n * n { Ok(entries) } else { Err(format!("{name}: not n·n entries")) }
+        };
+        let matrices = match rest {
+            [] | [_] => None,
+            [_, transform, inverse] => Some([matrix("transform", transform)?, matrix("inverse", inverse)?]),
+            _ => return Err("line: 10 fields, or more than 11".into()),
+        };
+        Ok(Self {
+            table: Enumerator::from_table(&weights, &mu),
+            target: items("target", target, double)?,
+            radius: double("radius", radius)?,
+            budget: decimal("budget", budget)?,
+            candidate: items("candidate", candidate, decimal)?,
+            places: rest.first().map_or(Ok(n), |places| decimal("places", places))?,
+            matrices,
+        })
+    }
+}
 
 fn decimal<T: std::str::FromStr>(field: &str, text: &str) -> Result<T, String> {
     text.parse().map_err(|_| format!("{field}: {text}"))
@@ -104,7 +142,8 @@ fn text<T>(answer: Result<T, DecodeError>, write: impl Fn(T) -> String) -> Strin
         Err(DecodeError::BudgetExhausted { nodes, radius_sq }) => {
             format!("BudgetExhausted({nodes}, {})", bits(radius_sq))
         }
-        Err(DecodeError::Range(_)) => unreachable!("no call over a table gives Range"),
+        // What stands in it is the stand-in's.
+        Err(DecodeError::Range(_)) => "Range()".into(),
     }
 }
 

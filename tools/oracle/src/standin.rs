@@ -1,11 +1,14 @@
 //! What the original names of the crate `lattica`, which is not published with it: as much as makes its files compile.
-//! A table that is handed in meets only `Gso` and `DecodeError`. The rest factors and reduces Gram matrices; it panics.
+//! A table that is handed in meets only `Gso` and `DecodeError`, and matrices that are handed in with it meet
+//! `IntMatrix::get`, `Int::widen` and `Int::narrow`. The rest factors and reduces Gram matrices; it panics.
 
 pub mod error {
     #[derive(Debug, Clone, Copy, PartialEq)]
     pub enum Op {
         Add,
         Mul,
+        /// What `lattica` calls it is not known: the original only hands `narrow`'s error on.
+        Narrow,
     }
 
     #[derive(Debug, Clone, Copy, PartialEq)]
@@ -44,9 +47,8 @@ pub mod error {
 }
 
 pub mod int {
-    use super::error::RangeError;
+    use super::error::{Op, RangeError};
     use core::fmt::Debug;
-    use core::marker::PhantomData;
 
     pub trait Int: Copy + Debug + PartialEq {
         const ZERO: Self;
@@ -67,8 +69,8 @@ pub mod int {
         fn widen(self) -> i128 {
             i128::from(self)
         }
-        fn narrow(_: i128) -> Result<Self, RangeError> {
-            unimplemented!()
+        fn narrow(wide: i128) -> Result<Self, RangeError> {
+            Self::try_from(wide).map_err(|_| RangeError::Overflow { op: Op::Narrow, width_bits: Self::BITS })
         }
         fn is_zero(self) -> bool {
             self == 0
@@ -78,15 +80,22 @@ pub mod int {
         }
     }
 
+    /// A matrix that is handed in, with (row, column) at row·columns+column.
     #[derive(Debug, Clone)]
-    pub struct IntMatrix<T: Int>(PhantomData<T>);
+    pub struct IntMatrix<T: Int> {
+        columns: usize,
+        entries: Vec<T>,
+    }
 
     impl<T: Int> IntMatrix<T> {
+        pub fn from_entries(columns: usize, entries: &[T]) -> Self {
+            Self { columns, entries: entries.to_vec() }
+        }
         pub fn rows(&self) -> usize {
             unimplemented!()
         }
-        pub fn get(&self, _: usize, _: usize) -> T {
-            unimplemented!()
+        pub fn get(&self, row: usize, column: usize) -> T {
+            self.entries[row * self.columns + column]
         }
         pub fn det(&self) -> Result<T, RangeError> {
             unimplemented!()

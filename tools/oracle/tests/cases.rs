@@ -1,7 +1,9 @@
-//! The specification's bench cases A to L, and its texts of jobs. L's budget of 2^60 + 1 is left out: the original does
-//! not have refusal 9.
+//! The specification's bench cases A to L, the prepared search, and the texts of jobs. L's budget of 2^60 + 1 is left
+//! out: the original does not have refusal 9.
 
-use oracle::error::DecodeError::{self, BudgetExhausted, InvalidRadius, NonFinite, OutsideRadius};
+use oracle::error::DecodeError::{
+    self, BudgetExhausted, InvalidRadius, LengthMismatch, NonFinite, OutsideRadius, Range,
+};
 use oracle::{Enumerator, job_text, list, nearest, nearest_ml, nearest_plane, nearest_seeded, round, rounded_away};
 
 const ULP: f64 = f64::EPSILON;
@@ -92,6 +94,74 @@ fn l() {
     refused(nearest_seeded(&table, &[0.5], 1, &[2], 2.0, 100), InvalidRadius { radius_sq: 2.0 });
     is(nearest_seeded(&table, &[0.5], 1, &[2], 2.25, 100), (vec![0], 4, 0.25));
 }
+
+// ---- the prepared search
+
+fn prepared(table: &Enumerator, pair: [&[i64]; 2], target: &[f64], budget: u64) -> oracle::Found {
+    oracle::prepared_nearest_ml(table, pair[0], pair[1], target, table.dim(), budget)
+}
+
+/// The point is the mapped one, the distance that of the point before.
+#[test]
+fn prepared_by_hand() {
+    is(prepared(&Enumerator::from_table(&[], &[]), [&[], &[]], &[], 0), (vec![], 0, 0.0));
+    // G at the target (0.25, 0.5): its [0, 1] by rows (2, 1) and (1, 1) is [1, 1].
+    let pair: [&[i64]; 2] = [&[2, 1, 1, 1], &[1, -1, -1, 2]];
+    is(prepared(&two([1.0, 1.0], 0.5), pair, &[1.0, 0.75], 100), (vec![1, 1], 3, 0.25));
+    refused(prepared(&two([1.0, 1.0], 0.5), pair, &[1.0, 0.75], 2), BudgetExhausted { nodes: 2, radius_sq: 0.25 });
+    // Not symmetric: [0, 1] by rows (1, 3) and (0, 1), at the target whose transform is (0.25, 0.5).
+    let pair: [&[i64]; 2] = [&[1, 3, 0, 1], &[1, -3, 0, 1]];
+    is(prepared(&two([1.0, 1.0], 0.5), pair, &[0.25, 1.25], 100), (vec![0, 1], 3, 0.25));
+}
+
+/// Products up to 2^64 whose sum is -1024.
+#[test]
+fn prepared_beyond_i64() {
+    let (third, seventh) = (-2f64.powi(42), -2f64.powi(22));
+    let table = Enumerator::from_table(&[1.0; 3], &[0.0, 0.0, 0.0, third, 0.0, 0.0, 0.0, seventh, 0.0]);
+    let pair = |a: i64, b: i64| ([1, 0, a, 0, 1, b, 0, 0, 1], [1, 0, -a, 0, 1, -b, 0, 0, 1]);
+    let target = [0.0, 0.0, -0.25];
+    let (transform, inverse) = pair(4, -(1 << 44));
+    let (point, nodes, distance) = prepared(&table, [&transform, &inverse], &target, 1000).unwrap();
+    assert_eq!((point, nodes), (vec![(1 << 62) - 256, 1 << 20, -1024], 771));
+    is(nearest_ml(&table, &target, 3, 1000), (vec![(1 << 62) - 256, 1 << 20, 0], 771, distance));
+    let (transform, inverse) = pair(4, 0);
+    assert!(matches!(prepared(&table, [&transform, &inverse], &target, 1000), Err(Range(_))));
+}
+
+#[test]
+fn prepared_refused() {
+    let pair: [&[i64]; 2] = [&[1, -1, 0, 1], &[1, 1, 0, 1]];
+    let table = two([1.0, 1.0], 0.0);
+    refused(prepared(&table, pair, &[LIMIT, LIMIT], 1 << 61), NonFinite { index: 1 });
+    refused(prepared(&table, pair, &[0.0, LIMIT + 1.0], 9), NonFinite { index: 1 });
+    refused(prepared(&table, pair, &[0.0], 9), LengthMismatch { expected: 2, found: 1 });
+    let long = oracle::prepared_nearest_ml(&table, pair[0], pair[1], &[0.0, 0.0], 3, 9);
+    refused(long, LengthMismatch { expected: 2, found: 3 });
+}
+
+#[test]
+fn prepared_lines() {
+    let (zero, one, half) = ("0000000000000000", "3ff0000000000000", "3fe0000000000000");
+    let g =
+        format!("prepared_nearest_ml 2 {one},{one} {zero},{zero},{half},{zero} {one},3fe8000000000000 {zero} 100 - 2");
+    assert_eq!(oracle::answer(&format!("{g} 2,1,1,1 1,-1,-1,2")), "found 3 3fd0000000000000 [ 1 1 ]");
+    assert_eq!(oracle::answer(&g), "malformed line: fewer than 11 fields");
+    assert_eq!(oracle::answer(&format!("{g} 2,1,1,1")), "malformed line: 10 fields, or more than 11");
+    assert_eq!(oracle::answer(&format!("{g} 2,1,1,1 1,-1,-1")), "malformed inverse: not n·n entries");
+    assert_eq!(
+        oracle::answer(&format!("prepared_nearest_ml 0 - - - {zero} 0 - 0 - -")),
+        "found 0 0000000000000000 [ ]"
+    );
+    // A quarter above by mu 2^52 makes coordinate 0 2^50; 2^13 times that is 2^63.
+    let far =
+        format!("prepared_nearest_ml 2 {one},{one} {zero},{zero},4330000000000000,{zero} {zero},3fd0000000000000");
+    let far = |factor: i64| oracle::answer(&format!("{far} {zero} 9 - 2 1,{factor},0,1 1,{},0,1", -factor));
+    assert_eq!(far(-1 << 13), format!("found 2 3fb0000000000000 [ {} {} ]", 1_i64 << 50, i64::MIN));
+    assert_eq!(far(1 << 13), "Range()");
+}
+
+// ---- lines and jobs
 
 #[test]
 fn lines() {

@@ -3,7 +3,7 @@ use mathlib.Core.Path.{sym, ap, _∙_}
 use native.Mathlib.Omega.{arith}
 use Rattle.definitions.specs.Table.{table}
 use Rattle.definitions.specs.Checks.{tableChecks}
-use Rattle.definitions.proofs.Passed.{table-small}
+use Rattle.definitions.proofs.Passed.{table-checked}
 use Rattle.refusals.specs.Numbers.{verdict}
 use borrow.Author.Needs.{needs}
 use Rattle.checks.proofs.Sequence.{alone, joined, refused, passed}
@@ -21,7 +21,7 @@ list-size-check-requires c κs =
     let told = c .before .before .before .before in
     let checked = told .before .before in
     let a = checked .before .before .before .before .before .args in
-    omega (arith, table-small (a .largest) (table (a .weights .now) (a .mu .now)) (sym (checked .table-check .ensures) ∙ ap verdict (told .enum-told2 .given .1)))
+    omega (arith, table-checked (a .largest) (table (a .weights .now) (a .mu .now)) (sym (checked .table-check .ensures) ∙ ap verdict (told .enum-told2 .given .1)) .small)
 
 returns-2 : tie.Need-returns-2
 returns-2 c =

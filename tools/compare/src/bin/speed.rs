@@ -4,10 +4,12 @@
 //! prints the nodes: for a program that counts instructions, by the difference of two runs.
 
 use compare::case::{Call, Case};
+use compare::matrices::Pair;
 use compare::rng::Rng;
 use compare::{compare, port};
 use oracle::Enumerator;
-use oracle::enumerate::EnumerationScratch;
+use oracle::enumerate::{EnumerationScratch, PreparedEnumerationScratch, PreparedEnumerator};
+use oracle::int::IntMatrix;
 use std::hint::black_box;
 use std::time::Instant;
 
@@ -39,6 +41,17 @@ fn input(call: Call, n: usize, number: u64) -> Input {
     let target: Vec<f64> = (0..n).map(|_| rng.uniform(-100.0, 100.0)).collect();
     let table = Enumerator::from_table(&weights, &mu);
     Input { case: Case::new(call, &weights, &mu, &target, 0.0, AMPLE), table }
+}
+
+/// Inputs by number, as many as a row has, and the nodes of a pass over them.
+fn inputs<I>(input: impl Fn(u64) -> I, mut nodes: impl FnMut(&I) -> u64) -> (Vec<I>, u64) {
+    let (mut inputs, mut total) = (Vec::new(), 0);
+    while inputs.len() < FEWEST || (total < NODES && inputs.len() < MOST) {
+        let input = input(inputs.len() as u64);
+        total += nodes(&input);
+        inputs.push(input);
+    }
+    (inputs, total)
 }
 
 /// Nanoseconds of a pass: the fastest turn and the median one.
@@ -99,18 +112,71 @@ fn rust_ml(input: &Input, out: &mut [i64], scratch: &mut EnumerationScratch) -> 
 fn time_ml(n: usize) {
     let scratch = &mut EnumerationScratch::new();
     let (mut out, mut other) = (vec![0; n], vec![0; n]);
-    let (mut inputs, mut nodes) = (Vec::new(), 0);
-    while inputs.len() < FEWEST || (nodes < NODES && inputs.len() < MOST) {
-        let input = input(Call::Ml, n, inputs.len() as u64);
-        assert_same(&input.case);
-        nodes += rust_ml(&input, &mut out, scratch);
-        inputs.push(input);
-    }
+    let (inputs, nodes) = inputs(|k| input(Call::Ml, n, k), |i| rust_ml(i, &mut out, scratch));
+    inputs.iter().for_each(|i| assert_same(&i.case));
     let mut rust = || inputs.iter().map(|i| rust_ml(i, &mut out, scratch)).sum();
     let mut port = || inputs.iter().map(|i| port::nearest_ml(&i.case, &mut other).first).sum();
     let times = in_turns(nodes, [&mut rust, &mut port]);
     let size = format!("{} nodes a call", nodes / inputs.len() as u64);
     print(&format!("nearest_ml, n = {n}, ns a node"), inputs.len(), &size, nodes as f64, times);
+}
+
+// ---- prepared_nearest_ml
+
+/// An input with matrices, and the search that the Rust prepares once.
+struct Prepared {
+    case: Case,
+    search: PreparedEnumerator<i64>,
+}
+
+/// The largest magnitude of an element of the matrices.
+const LARGEST_ELEMENT: u64 = 30;
+
+/// The identity with its rows permuted and multiples of rows added to others, where the elements stay small.
+fn pair(n: usize, number: u64) -> Pair {
+    let rng = &mut Rng::of_case(100 + n as u64, number);
+    let mut pair = Pair::identity(n);
+    for i in 0..n {
+        pair.swap(i, rng.below(i + 1));
+    }
+    for _ in 0..8 * n {
+        let (to, from, mut next) = (rng.below(n), rng.below(n), pair.clone());
+        if to != from && next.add(to, from, rng.pick(&[-2, -1, 1, 2])) {
+            let mut elements = next.transform.iter().chain(&next.inverse);
+            if elements.all(|z| z.unsigned_abs() <= LARGEST_ELEMENT) {
+                pair = next;
+            }
+        }
+    }
+    pair
+}
+
+/// The input of `nearest_ml` with that number, its target in other coordinates: transformed, it is about the same.
+fn prepared(n: usize, number: u64) -> Prepared {
+    let Input { case, table } = input(Call::Prepared, n, number);
+    let pair = pair(n, number);
+    let coordinate = |column| (0..n).map(|row| case.target[row] * pair.transform[row * n + column] as f64).sum();
+    let target: Vec<f64> = (0..n).map(coordinate).collect();
+    let matrix = |elements| IntMatrix::from_entries(n, elements);
+    let search = PreparedEnumerator::from_table(table, matrix(&pair.transform), matrix(&pair.inverse));
+    Prepared { case: Case { target, ..case.with_pair(&pair) }, search }
+}
+
+fn rust_prepared(input: &Prepared, out: &mut [i64], scratch: &mut PreparedEnumerationScratch) -> u64 {
+    input.search.nearest_ml(&input.case.target, out, AMPLE, scratch).unwrap()
+}
+
+fn time_prepared(n: usize) {
+    let scratch = &mut PreparedEnumerationScratch::new();
+    let (mut out, mut other) = (vec![0; n], vec![0; n]);
+    let (inputs, nodes) = inputs(|k| prepared(n, k), |i| rust_prepared(i, &mut out, scratch));
+    inputs.iter().for_each(|i| assert_same(&i.case));
+    let mut rust = || inputs.iter().map(|i| rust_prepared(i, &mut out, scratch)).sum();
+    let mut port = || inputs.iter().map(|i| port::prepared_nearest_ml(&i.case, &mut other).first).sum();
+    let times = in_turns(nodes, [&mut rust, &mut port]);
+    let calls = inputs.len() as u64;
+    let size = format!("{} nodes a call", nodes / calls);
+    print(&format!("prepared_nearest_ml, n = {n}, µs a call"), inputs.len(), &size, calls as f64 * 1e3, times);
 }
 
 // ---- list
@@ -188,6 +254,9 @@ fn table() {
     println!("|---|---:|---|---:|---:|---:|---:|---:|---:|");
     for n in [8, 12, 16, 20, 23] {
         time_ml(n);
+    }
+    for n in [8, 16, 23] {
+        time_prepared(n);
     }
     for n in [8, 16] {
         for (points, places) in [(256, 256), (256, 4096), (4000, 4096)] {
