@@ -78,9 +78,11 @@ rising =
     preparedNearestMl table3 (pos 1 ∷ pos 0 ∷ pos 0 ∷ negsuc 0 ∷ pos 1 ∷ pos 0 ∷ pos 1 ∷ pos 0 ∷ pos 1 ∷ []) (pos 1 ∷ pos 0 ∷ pos 0 ∷ pos 1 ∷ pos 1 ∷ pos 0 ∷ negsuc 0 ∷ pos 0 ∷ pos 1 ∷ [])
     (coordLimit ∷ half ∷ coordLimit ∷ []) (pos 9 ∷ pos 9 ∷ pos 9 ∷ []) 100
 
--- 3 times 1 + 2^-52 is rounded before 3 is added
+-- 3 times 1 + 2^-52 is rounded before it is added to 3
 abbrev product : Answer NearestPoint
-product = preparedNearestMl (table2 plusZero) (shear (pos 3) (pos 1)) (shear (negsuc 2) (pos 1)) (fin false (2 ^ 52 + 1) (negsuc 51) ∷ fin false 3 (pos 0) ∷ []) out2 100
+product =
+    preparedNearestMl (table2 plusZero) (pos 1 ∷ pos 0 ∷ pos 3 ∷ pos 1 ∷ []) (pos 1 ∷ pos 0 ∷ negsuc 2 ∷ pos 1 ∷ [])
+    (fin false 3 (pos 0) ∷ fin false (2 ^ 52 + 1) (negsuc 51) ∷ []) out2 100
 
 -- ---- the calls
 abbrev preparedCases : List (Answer NearestPoint)
@@ -130,7 +132,7 @@ preparedAnswers =
     ∷ found (record { nodes = 1; distance = fin false 1 (negsuc 3); point = pos 0 ∷ [] })
     ∷ refused (lengthMismatch 1 2)
     ∷ found (record { nodes = 5; distance = quarter; point = limit ∷ pos 0 ∷ limit ∷ [] })
-    ∷ found (record { nodes = 2; distance = fin false 17 (negsuc 103); point = pos 1 ∷ pos 3 ∷ [] })
+    ∷ found (record { nodes = 2; distance = fin false 17 (negsuc 103); point = pos 3 ∷ pos 1 ∷ [] })
     ∷ found (record { nodes = 0; distance = plusZero; point = [] })
     ∷ []
 

@@ -148,6 +148,23 @@ fn products() {
         1000,
     );
     three(b"the same, 770 nodes", entries, forward, back, target, 770);
+    two(
+        b"each part of a product",
+        17179869182.0,
+        &[1, 134217727, 0, 1],
+        &[1, -134217727, 0, 1],
+        [0.0, -0.5],
+        100,
+    );
+    let identity = [1, 0, 0, 0, 1, 0, 0, 0, 1];
+    three(
+        b"from -2^63",
+        [LIMIT, 0.0, -4096.0],
+        identity,
+        identity,
+        [0.0, 0.0, 0.5],
+        10000,
+    );
     one(b"1 modulo 2^64", &[274177], &[67280421310721], &[0.0], 100);
     let mut largest = [1, LARGEST_ELEMENT, 0, 1];
     let mut opposite = [1, -LARGEST_ELEMENT, 0, 1];
@@ -197,9 +214,9 @@ fn rounded_sums() {
     two(
         b"rounded product",
         0.0,
-        &[1, 3, 0, 1],
-        &[1, -3, 0, 1],
-        [1.0000000000000002, 3.0],
+        &[1, 0, 3, 1],
+        &[1, 0, -3, 1],
+        [3.0, 1.0000000000000002],
         100,
     );
     one(b"minus zero", &[-1], &[-1], &[0.0], 100);
@@ -213,11 +230,12 @@ fn matrices() {
     let target = [0.25, 0.25];
     one(b"a long transform", &[1, 0], &[1], &[], 100);
     one(b"a short inverse", &[1], &[], &[], 100);
-    one(
+    two(
         b"a length before an element",
-        &[LARGEST_ELEMENT + 1],
-        &[],
-        &[],
+        0.0,
+        &[1, LARGEST_ELEMENT + 1, 0, 1],
+        &[1, 0, 0],
+        target,
         100,
     );
     one(b"the transform's 0", &[LARGEST_ELEMENT + 1], &[1], &[], 100);

@@ -9,28 +9,28 @@ use borrow.Author.Tests.{not-false}
 use lib.Dec.{T}
 use lib.ListN.{length, getD}
 use lib.IntN.{ℤ, pos}
-use lib.Ieee.{Float, binary64, fits}
+use lib.Ieee.{Float, binary64, fits, add, mul}
 use lib.Ieee.Fits.{and-i, and-l, and-r}
-use Rattle.rounding.specs.Integers.{isI64}
+use Rattle.rounding.specs.Integers.{isI64, toDouble}
 use Rattle.rounding.proofs.Interface.{sum-fit, zero-nonneg}
 use Rattle.lists.specs.All.{none, more}
-use Rattle.definitions.specs.Table.{Table, dimension, plusZero, largestDimension}
+use Rattle.definitions.specs.Table.{Table, dimension, coordinate, plusZero, largestDimension}
 use Rattle.definitions.specs.Distance.{distance, hasDistance}
 use Rattle.definitions.specs.Admitted.{allI64}
 use Rattle.definitions.specs.Seeds.{widened}
 use Rattle.definitions.specs.Refusals.{Refusal, whole, lengthMismatch, nonFinite, budgetExhausted, matrixRange, mappedRange}
 use Rattle.definitions.specs.Checks.{Verdict, pass, refuse, firstRefusal, countFrom, tableChecks, lengthCheck}
 use Rattle.definitions.specs.Calls.{Answer, found, refused, after, NearestPoint, targetChecks, searchChecks, mlRadius, mlChecks, widenedSearch, nearestMl, nearestOutput}
-use Rattle.definitions.specs.Prepared.{transformedSum, transformedTarget, mappedCoordinate, mappedPoint, mappedRangeCheck, matrixChecks, givenChecks, transformedChecks, transformedOf, mappedAnswer, preparedNearestMl}
+use Rattle.definitions.specs.Prepared.{element, transformedSum, transformedTarget, mappedCoordinate, mappedPoint, mappedRangeCheck, matrixChecks, givenChecks, transformedChecks, transformedOf, mappedAnswer, preparedNearestMl}
 use Rattle.definitions.proofs.Verdicts.{orElse, first-append, first-alone, first-passes, append-passes, passes-append, first-fault, no-fault, passed}
 use Rattle.definitions.proofs.Admissions.{allI64-nil, allI64-intro, vector-length, vector-intro}
 use Rattle.definitions.proofs.Answers.{after-pass, after-refuse, found≢refused, refused-same, ml-is, ml-checks-are, output-found, output-refused}
-use Rattle.definitions.proofs.Prepared.{transformed-none, transformed-next, mapped-length, mapped-at, mappedFound, map-refused, map-found, map-after, given-passed, prepared-is, prepared-checks-are, prepared-passed, transformed-length}
+use Rattle.definitions.proofs.Prepared.{transformed-none, transformed-next, mapped-length, mapped-at, mappedFound, map-refused, map-found, map-after, given-passed, prepared-is, prepared-checks-are, prepared-passed, transformed-length, transformed-at}
 use Rattle.theorems.specs.Doubles.{allDoubles, ofDoubles}
 use Rattle.theorems.specs.Refusals.{NoneFits, FirstFits}
 use Rattle.theorems.specs.Answers.{Nearest, NoMinusZero, Under, Demand1}
 use Rattle.theorems.specs.Promises.{mlCallChecks, MlPromises, NearestNodes, PointWritten}
-use Rattle.theorems.specs.Prepared.{preparedCallChecks, PreparedAccepted, MapsInside, FirstOutside, EndsMapped, MappedFrom, MappedOutside, FromPlane, PreparedPromises}
+use Rattle.theorems.specs.Prepared.{roundedSum, preparedCallChecks, PreparedAccepted, MapsInside, FirstOutside, EndsMapped, MappedFrom, MappedOutside, FromPlane, PreparedPromises}
 use Rattle.theorems.proofs.Booleans.{of-true}
 use Rattle.theorems.proofs.Doubles.{AllDouble, doubles-tested}
 use Rattle.theorems.proofs.FirstFaults.{carrying, counted-first}
@@ -54,6 +54,12 @@ transformed-doubles n inverse target = doubles-tested (each (countFrom 0 n))
     each : (columns : List ℕ) → AllDouble (map (λ column. transformedSum n inverse target column n) columns)
     each [] = none
     each (c ∷ cs) = more (sum-double n inverse target c n) (each cs)
+
+-- ---- and its coordinates are the rounded sums
+sum-rounded : (n : ℕ) (inverse : List ℤ) (target : List Float) (column rows : ℕ) → transformedSum n inverse target column rows ≡ roundedSum rows (λ row. mul binary64 (coordinate target row) (toDouble (element n inverse row column)))
+unfolding roundedSum
+sum-rounded n inverse target column zero = transformed-none n inverse target column
+sum-rounded n inverse target column (suc row) = transformed-next n inverse target column row ∙ ap (λ (x : Float). add binary64 x (mul binary64 (coordinate target row) (toDouble (element n inverse row column)))) (sum-rounded n inverse target column row)
 
 -- ---- integers that are all 64-bit
 all-inside : (zs : List ℤ) → ((k : ℕ) → k < length zs → T (isI64 (getD zs k (pos 0)))) → T (allI64 zs)
@@ -346,6 +352,7 @@ module _ (t : Table) (transform inverse : List ℤ) (target : List Float) (out :
     pub prepared-promises : PreparedPromises t transform inverse target out budget answer (nearestOutput answer out)
     prepared-promises =
         record {
+          transformed = λ column less. transformed-at n inverse target column less ∙ sum-rounded n inverse target column n;
           accepts = prepared-accepts t transform inverse target out budget;
           demand-1 = demand;
           order = prepared-numbered t transform inverse target out budget;

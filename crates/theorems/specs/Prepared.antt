@@ -1,15 +1,16 @@
 -- What `prepared_nearest_ml` promises of its answer and of out at exit, for every input of doubles: of the search at the transformed target, and of the mapped point. Definitions only.
 use mathlib.Core.Path.{_≡_}
-use mathlib.Core.Bool.{true, false, not}
+use mathlib.Core.Bool.{true, false, not, cond}
 use mathlib.Core.List.{List, [], _∷_, _++_}
 use mathlib.Core.Logic.{_⊎_, _↔_}
-use Prim.Native.Nat.{ℕ, _+_, _*_, _^_, _≤_, _<_}
-use lib.Dec.{T}
+use Prim.Native.Nat.{ℕ, zero, suc, _+_, _*_, _^_, _≤_, _<_}
+use lib.Dec.{T, eqb}
 use lib.ListN.{length, getD}
-use lib.IntN.{ℤ, pos, natAbs}
-use lib.Ieee.{Float, lt}
+use lib.IntN.{ℤ, pos, natAbs, _*ℤ_}
+use lib.Ieee.{Float, binary64, add, mul, lt}
 use lib.Ieee.Scale.{finite}
-use Rattle.rounding.specs.Integers.{isI64}
+use Rattle.rounding.specs.Integers.{isI64, toDouble}
+use Rattle.lists.specs.Sums.{sumOf}
 use Rattle.definitions.specs.Table.{Table, dimension, coordinate, plusZero, largestDimension}
 use Rattle.definitions.specs.Distance.{distance, hasDistance}
 use Rattle.definitions.specs.Admitted.{isVector, opened}
@@ -19,12 +20,28 @@ use Rattle.definitions.specs.Seeds.{nearestPlane, widened}
 use Rattle.definitions.specs.Refusals.{Refusal, lengthMismatch, nonFinite, budgetExhausted, matrixRange, mappedRange}
 use Rattle.definitions.specs.Checks.{Verdict, targetFault}
 use Rattle.definitions.specs.Calls.{Answer, found, refused, NearestPoint, mlRadius, nearestMl}
-use Rattle.definitions.specs.Prepared.{productElement, identityElement, elementFault, mappedCoordinate, mappedPoint, transformedOf, mappedAnswer, givenChecks, checksOfPrepared}
+use Rattle.definitions.specs.Prepared.{elementFault, mappedPoint, transformedOf, mappedAnswer, givenChecks, checksOfPrepared}
 use Rattle.theorems.specs.Counting.{NumberOf}
 use Rattle.theorems.specs.Refusals.{NoneFits, Numbered, FirstFault, FirstIndices}
 use Rattle.theorems.specs.Accepted.{Bounded, SearchAccepted}
 use Rattle.theorems.specs.Answers.{Nearest, NoMinusZero, Demand1}
 use Rattle.theorems.specs.Promises.{NearestNodes, PointWritten}
+
+-- ---- sums over the elements of a matrix, which lies row by row, in words of their own
+
+-- of an element of a product, in the whole numbers
+abbrev pub productSum : ℕ → List ℤ → List ℤ → ℕ → ℕ → ℤ
+productSum n a b row column = sumOf n (λ k. getD a (row * n + k) (pos 0) *ℤ getD b (k * n + column) (pos 0))
+
+-- of a point times a column, in the whole numbers
+abbrev pub columnSum : ℕ → List ℤ → List ℤ → ℕ → ℤ
+columnSum n matrix point column = sumOf n (λ row. getD point row (pos 0) *ℤ getD matrix (row * n + column) (pos 0))
+
+-- f 0 + f 1 + .., k of them, from plus zero; each addition is rounded
+unfoldable pub roundedSum : ℕ → (ℕ → Float) → Float
+unfolding add
+roundedSum zero f = plusZero
+roundedSum (suc k) f = add binary64 (roundedSum k f) (f k)
 
 -- ---- the matrices
 
@@ -35,8 +52,8 @@ pub record MatrixAccepted (n : ℕ) (m : List ℤ) : Type 0 where
 
 -- 23: inverse to each other, in the whole numbers
 pub record Inverses (n : ℕ) (transform inverse : List ℤ) : Type 0 where
-  pub transform-inverse : (row column : ℕ) → row < n → column < n → productElement n transform inverse row column ≡ identityElement row column
-  pub inverse-transform : (row column : ℕ) → row < n → column < n → productElement n inverse transform row column ≡ identityElement row column
+  pub transform-inverse : (row column : ℕ) → row < n → column < n → productSum n transform inverse row column ≡ cond (eqb row column) (pos 1) (pos 0)
+  pub inverse-transform : (row column : ℕ) → row < n → column < n → productSum n inverse transform row column ≡ cond (eqb row column) (pos 1) (pos 0)
 
 -- mapping by the one and then by the other changes no vector of n integers
 pub record MapsInverse (n : ℕ) (transform inverse : List ℤ) : Type 0 where
@@ -65,10 +82,10 @@ TargetIndex n target x i =
 
 -- the mapped coordinates of z are signed 64-bit integers; or c is the first that is not
 abbrev pub MapsInside : ℕ → List ℤ → List ℤ → Type 0
-MapsInside n transform z = (column : ℕ) → column < n → isI64 (mappedCoordinate n transform z column) ≡ true
+MapsInside n transform z = (column : ℕ) → column < n → isI64 (columnSum n transform z column) ≡ true
 
 abbrev pub FirstOutside : ℕ → List ℤ → List ℤ → ℕ → Type 0
-FirstOutside n transform z c = FirstFault (λ k. k < n) (λ k. not (isI64 (mappedCoordinate n transform z k))) c
+FirstOutside n transform z c = FirstFault (λ k. k < n) (λ k. not (isI64 (columnSum n transform z k))) c
 
 -- ---- the call
 module _ (t : Table) (transform inverse : List ℤ) (target : List Float) (out : List ℤ) (budget : ℕ) where
@@ -113,7 +130,7 @@ module _ (t : Table) (transform inverse : List ℤ) (target : List Float) (out :
     pub nearest : Nearest t x R z
     pub own-distance : (a .distance ≡ distance t x z) × T (hasDistance t x z)
     -- each coordinate of out′ is the sum of z[row]·transform[row, column] in the whole numbers, and a signed 64-bit integer
-    pub mapped : (column : ℕ) → column < n → getD out′ column (pos 0) ≡ mappedCoordinate n transform z column
+    pub mapped : (column : ℕ) → column < n → getD out′ column (pos 0) ≡ columnSum n transform z column
     pub vector : T (isVector t out′)
     -- nothing is lost: the inverse maps out′ back to z
     pub mapped-back : mappedPoint n inverse out′ ≡ z
@@ -134,6 +151,8 @@ module _ (t : Table) (transform inverse : List ℤ) (target : List Float) (out :
     pub point-or-refused : (PointWritten answer out′ ⊎ ((c : ℕ) × MappedOutside answer out′ c)) ⊎ ((S : Float) × (answer ≡ refused (budgetExhausted budget S)) × (out′ ≡ out))
 
   pub record PreparedPromises (answer : Answer NearestPoint) (out′ : List ℤ) : Type 0 where
+    -- each coordinate of x is the sum of target[row] times inverse[row, column], from row 0 on; each product is rounded, then the sum
+    pub transformed : (column : ℕ) → column < n → coordinate x column ≡ roundedSum n (λ row. mul binary64 (coordinate target row) (toDouble (getD inverse (row * n + column) (pos 0))))
     -- no check fits exactly where the input is one that the call accepts
     pub accepts : NoneFits preparedCallChecks ↔ PreparedAccepted
     -- refused by the first check that fits, in the order that the call has, with its number and values; where none fits, a point or 15 or 24;
