@@ -78,15 +78,6 @@ pub record MlTold (t : Table) (target : List Float) (out : List ℤ) (budget : �
   pub promises : MlPromises t target out budget (C.nearestMl t target out budget) out′
   pub distance-agrees : DistanceAgrees t target (C.nearestMl t target out budget) out′
 
-pub record PreparedTold (t : Table) (transform inverse : List ℤ) (target : List Float) (out : List ℤ) (budget : ℕ) (r : Report) (out′ : List ℤ) : Type 0 where
-  pub tells : r ≡ ofNearest (preparedNearestMl t transform inverse target out budget)
-  pub told-as : PointTold (preparedNearestMl t transform inverse target out budget) r
-  pub writes : out′ ≡ C.nearestOutput (preparedNearestMl t transform inverse target out budget) out
-  pub promises : PreparedPromises t transform inverse target out budget (preparedNearestMl t transform inverse target out budget) out′
-  -- the distance told is that of out′ mapped back, from the transformed target
-  pub distance-agrees : (a : C.NearestPoint) → preparedNearestMl t transform inverse target out budget ≡ C.found a →
-      C.pointDistance t (transformedOf t inverse target) (mappedPoint (dimension t) inverse out′) ≡ C.found (a .distance)
-
 pub record DistanceTold (t : Table) (target : List Float) (point : List ℤ) (r : Report) : Type 0 where
   pub tells : r ≡ ofDistance (C.pointDistance t target point)
   pub told-as : AnswerTold (C.pointDistance t target point) (λ d. told 0 0 0 d) r
@@ -145,3 +136,12 @@ pub record RatioTold (distances : List Float) (radius : Float) (p q : ℕ) (r : 
   -- 21 and its index
   pub gives-0 : (r ≡ told 21 0 0 plusZero) ↔ (RightP p q → ⊥)
   pub gives-1 : (r ≡ told 21 1 0 plusZero) ↔ (RightP p q × (RightQ q → ⊥))
+
+pub record PreparedTold (t : Table) (transform inverse : List ℤ) (target : List Float) (out : List ℤ) (budget : ℕ) (r : Report) (out′ : List ℤ) : Type 0 where
+  pub tells : r ≡ ofNearest (preparedNearestMl t transform inverse target out budget)
+  pub told-as : PointTold (preparedNearestMl t transform inverse target out budget) r
+  pub writes : out′ ≡ C.nearestOutput (preparedNearestMl t transform inverse target out budget) out
+  pub promises : PreparedPromises t transform inverse target out budget (preparedNearestMl t transform inverse target out budget) out′
+  -- the distance told is that of out′ mapped back, from the transformed target
+  pub distance-agrees : (a : C.NearestPoint) → preparedNearestMl t transform inverse target out budget ≡ C.found a →
+      C.pointDistance t (transformedOf t inverse target) (mappedPoint (dimension t) inverse out′) ≡ C.found (a .distance)
