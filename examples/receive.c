@@ -12,7 +12,8 @@
 
 #include "snowgimmer.h"
 
-#define MOST SNOWGIMMER_LARGEST_DIMENSION
+/* a table of more than 23 weights is for snowgimmer_nearest and snowgimmer_list alone */
+#define MOST SNOWGIMMER_LARGEST_SEARCHED
 
 /* mu as the calls take it. Only what is received is read. */
 static double mu[MOST * MOST];

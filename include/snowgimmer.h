@@ -13,8 +13,26 @@
  * DISTANCE AND RADIUS ARE SQUARES, as this sum is: a radius of 4 holds the vectors at a length of up to 2. They are
  * computed in IEEE 754 doubles, each operation rounded to nearest-even, and "nearest" is by the computed distance.
  *
- * A TABLE has n weights, 0 to 23, and n*n entries mu, ROW BY ROW. Only entries below the diagonal are read; the others,
- * the diagonal's ones too, may hold anything. For n = 4:
+ * FROM n = 24 ON, up to 64, which snowgimmer_nearest and snowgimmer_list alone take, the centres c[i] are not
+ * computed anew at each node: they are kept, and changed by what one coordinate changed by (docs/SPECIFICATION.md,
+ * "Running centres"). So their roundings depend on the path of the search. NOT PROMISED there, and not so at every
+ * input:
+ *
+ *   - that no vector is nearer than the point found, or that its distance is the formula's, computed as above
+ *   - that a list begins at the distance that snowgimmer_nearest tells
+ *   - that a list has every vector inside the radius, or no other
+ *   - that no vector is inside the radius where nothing is found, by refusal 16 or an empty list
+ *   - that a verdict of snowgimmer_ratio says anything of vectors that are not listed
+ *
+ * Promised there: the answers are those of that search, for all inputs; a point is n integers, and its distance from
+ * 0 to the radius; a list is strictly in its order, and has no vector twice; the nodes are at most the budget; an
+ * answer other than 15 is that of every larger budget; a refusal changes nothing. The roundings are those of the
+ * largest c[i] on the path. With a reduced table and targets of a few cycles they are in the last digits of a
+ * distance. So take whole cycles off a large target first, and add them to the point.
+ *
+ * A TABLE has n weights and n*n entries mu, ROW BY ROW. n is 0 to 64 in snowgimmer_nearest and snowgimmer_list, and 0
+ * to 23 in every other function. Only entries below the diagonal are read; the others, the diagonal's ones too, may
+ * hold anything. For n = 4:
  *
  *              i = 0    i = 1    i = 2    i = 3
  *     j = 0      .        .        .        .
@@ -31,7 +49,8 @@
  *
  *   number                  first              second   real
  *    0                      as each function says below
- *    2 TableSize            weights' length                       more than 23 weights, or mu of a length not n*n
+ *    2 TableSize            weights' length                       more than 23 weights, in nearest and list more than
+ *                                                                 64, or mu of a length not n*n
  *    3 MuNonFinite          its index                             an entry that is read is not finite
  *    4 MuRange              its index                             an entry that is read is above 2^52 in magnitude
  *    5 WeightRange          its index                             a weight is not finite or not above 0
@@ -45,7 +64,7 @@
  *   13 WidenedRadius                                    it        it is not finite
  *   14 ListSize             distances' length                     over 4096, or points not n times as many
  *   15 BudgetExhausted      nodes                       radius    the one that stood when the walk stopped
- *   16 OutsideRadius                                    radius    no vector is inside it
+ *   16 OutsideRadius                                    radius    no vector is inside it; from n = 24 on none is found
  *   17 is free: nothing is refused by it, and no refusal will be given it
  *   18 ListFull             points                                more points than places
  *   19 ReferenceIndex                                             r is not below the point's length
@@ -76,12 +95,14 @@
 #include <stdint.h>
 
 #define SNOWGIMMER_VERSION_MAJOR 0
-#define SNOWGIMMER_VERSION_MINOR 9
+#define SNOWGIMMER_VERSION_MINOR 10
 #define SNOWGIMMER_VERSION_PATCH 0
-#define SNOWGIMMER_VERSION "0.9.0"
+#define SNOWGIMMER_VERSION "0.10.0"
 
-/* The largest n. */
+/* The largest n of every function with a table but the two below. */
 #define SNOWGIMMER_LARGEST_DIMENSION 23
+/* The largest n of snowgimmer_nearest and snowgimmer_list. Since 0.10.0; before it was 23. */
+#define SNOWGIMMER_LARGEST_SEARCHED 64
 /* The most places that a list may be lent. */
 #define SNOWGIMMER_LARGEST_LIST 4096
 /* The largest budget, 2^60. */
@@ -177,8 +198,10 @@ int64_t snowgimmer_round_away(double x);
 
 /* Finds the nearest integer vector inside the radius and writes it to out, coordinate 0 first: first is the number of
  * nodes, and real the point's computed distance, a square: exactly the double that snowgimmer_distance gives for it,
- * and the first distance of a snowgimmer_list at the same radius. It is finite, and +0 where n is 0. Refused: 2 to 9,
- * 15, 16. Stack: 60 kB. Before 0.3.0 real was 0 after a success, in all three searches. */
+ * and the first distance of a snowgimmer_list at the same radius. It is finite, and +0 where n is 0. n is at most 64.
+ * FROM n = 24 ON neither "nearest" nor what is said of real is promised, as the head says: real is the sum that the
+ * search came to, from 0 to the radius. Refused: 2, if n is above 64; 3 to 9, 15, 16. Stack: 60 kB, and 42 kB with
+ * n = 64. Before 0.3.0 real was 0 after a success, in all three searches; before 0.10.0 n was at most 23. */
 uint32_t snowgimmer_nearest(const double *weights, size_t weights_len, const double *mu, size_t mu_len,
     const double *target, size_t target_len, int64_t *out, size_t out_len, double radius, uint64_t budget,
     uint64_t *first, uint64_t *second, double *real);
@@ -186,7 +209,7 @@ uint32_t snowgimmer_nearest(const double *weights, size_t weights_len, const dou
 /* The same inside the widened radius, radius + (2^-52 * max(radius, 1)) * 4n, a candidate inside the radius being
  * known; real is the distance of the point written. Once the checks have passed it ends with a point or with 15, and
  * always with a point if the budget is at least the number of nodes that snowgimmer_list takes at the widened radius.
- * Refused: 2 to 13, 15. Stack: 60 kB. */
+ * Refused: 2 to 13, 15. Stack: 61 kB. */
 uint32_t snowgimmer_nearest_seeded(const double *weights, size_t weights_len, const double *mu, size_t mu_len,
     const double *target, size_t target_len, int64_t *out, size_t out_len, const int64_t *candidate,
     size_t candidate_len, double radius, uint64_t budget, uint64_t *first, uint64_t *second, double *real);
@@ -194,7 +217,7 @@ uint32_t snowgimmer_nearest_seeded(const double *weights, size_t weights_len, co
 /* The same; the candidate is the nearest-plane point, and the radius that point's distance; real is the distance of the
  * point written. It too ends with a point or with 15 once the checks have passed, and always with a point if the budget
  * is at least the number of nodes that a list takes at the widened radius. Refused: 2 to 7, 9, 11, 13, 15. Stack:
- * 60 kB. */
+ * 61 kB. */
 uint32_t snowgimmer_nearest_ml(const double *weights, size_t weights_len, const double *mu, size_t mu_len,
     const double *target, size_t target_len, int64_t *out, size_t out_len, uint64_t budget, uint64_t *first,
     uint64_t *second, double *real);
@@ -225,15 +248,21 @@ uint32_t snowgimmer_nearest_ml(const double *weights, size_t weights_len, const 
  * 7, with the index in the given target or, where that is sound, the column of the transformed one; 9, 11, 13, 15; 24.
  * Once the checks have passed it ends with a point, with 15 or with 24, and not with 15 if the budget is at least the
  * number of nodes that snowgimmer_list takes from the transformed target at the widened radius. Beside the search it
- * makes the two products of the matrices, 2*n^3 multiplications. Stack: 60 kB. Since 0.9.0. */
+ * makes the two products of the matrices, 2*n^3 multiplications. Stack: 62 kB. Since 0.9.0. */
 uint32_t snowgimmer_prepared_nearest_ml(const double *weights, size_t weights_len, const double *mu, size_t mu_len,
     const int64_t *transform, size_t transform_len, const int64_t *inverse, size_t inverse_len, const double *target,
     size_t target_len, int64_t *out, size_t out_len, uint64_t budget, uint64_t *first, uint64_t *second, double *real);
 
 /* Lists every integer vector admitted at the radius, by distance and then coordinates: the distances go to distances,
  * at most 4096, and n coordinates for each to points, which is n times as long. first is the number of nodes, second
- * that of points; what lies behind the last point stays as it was. Refused: 2 to 9, 14, 15, 18; 18 tells how many
- * points there are, and so many places would do if they are at most 4096. Stack: 0.95 MB. */
+ * that of points; what lies behind the last point stays as it was. n is at most 64. FROM n = 24 ON it is not promised
+ * that every such vector is listed, or no other, as the head says: the list has the points that the search came to.
+ * Refused: 2, if n is above 64; 3 to 9, 14, 15, 18; 18 tells how many points there are, and so many places would do
+ * if they are at most 4096. Where the points have more than 94208 coordinates together, as 1473 points with n = 64
+ * have, the search is made twice, so that its time doubles, and the sort takes some milliseconds, up to a second
+ * where thousands of points are equally near. Stack: with at most 256 places and 5888 coordinates in points, as 92
+ * places have with n = 64, 0.15 MB; with at most 32768 coordinates 0.5 MB; else 1 MB. Before 0.10.0 n was at most 23,
+ * and the stack always 0.95 MB. */
 uint32_t snowgimmer_list(const double *weights, size_t weights_len, const double *mu, size_t mu_len,
     const double *target, size_t target_len, double *distances, size_t distances_len, int64_t *points,
     size_t points_len, double radius, uint64_t budget, uint64_t *first, uint64_t *second, double *real);
@@ -306,8 +335,10 @@ uint32_t snowgimmer_check_entry(uint32_t number, uint64_t at, size_t index, doub
  *     NONE    there is no distance: the list was refused, or no vector is admitted at the radius
  *
  * A FIRST DISTANCE OF 0 ALWAYS HOLDS in a list, since q*d2 >= p*0, and says nothing of how far the second vector is.
- * Any doubles are taken, NaNs too, in any order, and only the first two are read; but what a verdict means is promised
- * only of the distances that a list at this radius wrote. Refused: 21. Stack: below 1 kB. Since 0.7.0. */
+ * Any doubles are taken, NaNs too, in any order, and only the first two are read; but what a verdict means is
+ * promised only of the distances that a list at this radius wrote, with n up to 23. OF A LIST WITH n FROM 24 ON it
+ * compares the two distances, or the first with the radius, and says nothing of vectors that are not listed. Refused:
+ * 21. Stack: below 1 kB. Since 0.7.0. */
 uint32_t snowgimmer_ratio(const double *distances, size_t distances_len, double radius, uint64_t p, uint64_t q,
     uint64_t *first, uint64_t *second, double *real);
 

@@ -13,6 +13,7 @@
 #define PLACES 256
 #define MOST (SNOWGIMMER_LARGEST_LIST + 1)
 #define LONG 65
+#define LARGE (SNOWGIMMER_LARGEST_DIMENSION + 1)
 
 static const double weights[N] = {1.0, 1.0};
 static const double mu[N * N] = {0.0, 0.0, 0.5, 0.0};
@@ -23,7 +24,7 @@ static double real;
 static int differences;
 
 static double distances[MOST];
-static int64_t points[MOST * N];
+static int64_t points[SNOWGIMMER_LARGEST_LIST * SNOWGIMMER_LARGEST_SEARCHED];
 
 /* What a call told is what was expected of it. */
 static void expect(const char *what, uint32_t number, uint32_t expected, uint64_t one, uint64_t two, double three) {
@@ -46,6 +47,15 @@ static void expect_point(const char *what, const int64_t *point, int64_t one, in
 
 static void expect_name(uint32_t number, const char *name) {
     expect_true(name, strcmp(snowgimmer_refusal_name(number), name) == 0);
+}
+
+/* The same bits: 0 and -0 are not. */
+static int same(double one, double two) { return memcmp(&one, &two, sizeof one) == 0; }
+
+static double from_bits(uint64_t bits) {
+    double x;
+    memcpy(&x, &bits, sizeof x);
+    return x;
 }
 
 /* nearest over a table and target of n = 2, into an output that a refusal must leave alone */
@@ -297,6 +307,120 @@ static void lists(void) {
     expect("list size", list(MOST), SNOWGIMMER_LIST_SIZE, MOST, 0, 0.0);
 }
 
+/* A table of n weights of 1 with mu 0, but for the entry (1, 0), and a target of 0, but for its first two numbers. */
+struct large {
+    size_t n;
+    double weights[LONG], mu[LONG * LONG], target[LONG];
+};
+
+static const struct large *large_table(size_t n, double entry, double t0, double t1) {
+    static struct large t;
+    t.n = n;
+    for (size_t i = 0; i < n; i++) {
+        t.weights[i] = 1.0;
+        t.target[i] = i == 0 ? t0 : i == 1 ? t1 : 0.0;
+    }
+    for (size_t k = 0; k < n * n; k++) t.mu[k] = k / n > k % n ? 0.0 : NAN;
+    t.mu[n] = entry;
+    return &t;
+}
+
+/* nearest over the table, into an output that holds these two numbers and zeros then, or is as it was */
+static uint32_t large_nearest(const struct large *t, double radius, uint64_t budget, int64_t z0, int64_t z1) {
+    int64_t out[LONG];
+    for (size_t i = 0; i < t->n; i++) out[i] = -7;
+    uint32_t number = snowgimmer_nearest(t->weights, t->n, t->mu, t->n * t->n, t->target, t->n, out, t->n, radius,
+        budget, &first, &second, &real);
+    const int found = number == SNOWGIMMER_SUCCESS;
+    for (size_t i = 0; i < t->n; i++) {
+        const int64_t z = i == 0 ? z0 : i == 1 ? z1 : 0;
+        expect_true("output of a large table", out[i] == (found ? z : -7));
+    }
+    return number;
+}
+
+static uint32_t large_list(const struct large *t, double radius, uint64_t budget, size_t places) {
+    for (size_t k = 0; k < places; k++) distances[k] = -7.0;
+    for (size_t k = 0; k < places * t->n; k++) points[k] = -7;
+    return snowgimmer_list(t->weights, t->n, t->mu, t->n * t->n, t->target, t->n, distances, places, points,
+        places * t->n, radius, budget, &first, &second, &real);
+}
+
+/* From n = 24 on the centres are kept from node to node: that of level 0 is off by 3e-6 here, where the target is 2^40,
+ * and so 0.09, which is the computed distance of 0, 2^40, 0, .., does not hold it. */
+static void running_centres(void) {
+    const double far = 1099511627776.0;
+    const struct large *t = large_table(LARGE, 0.1, 0.3, far);
+    expect("running, outside", large_nearest(t, 0.09, 1000, 0, 0), SNOWGIMMER_OUTSIDE_RADIUS, 0, 0, 0.09);
+    expect("running, list", large_list(t, 0.09, 1000, 4), SNOWGIMMER_SUCCESS, 23, 0, 0.0);
+    expect_true("running, empty list", distances[0] == -7.0 && points[0] == -7);
+    const double told = from_bits(0x3FB70A5C29000000);
+    expect("running", large_nearest(t, 0.25, 24, 0, (int64_t)far), SNOWGIMMER_SUCCESS, 24, 0, told);
+    expect("running, budget", large_nearest(t, 0.25, 23, 0, 0), SNOWGIMMER_BUDGET_EXHAUSTED, 23, 0, 0.25);
+    expect("running, one point", large_list(t, 0.25, 24, 4), SNOWGIMMER_SUCCESS, 24, 1, 0.0);
+    expect_true("running, one point", same(distances[0], told) && distances[1] == -7.0);
+    expect_true("running, one point", points[0] == 0 && points[1] == (int64_t)far && points[LARGE] == -7);
+    expect("running, no place", large_list(t, 0.25, 24, 0), SNOWGIMMER_LIST_FULL, 1, 0, 0.0);
+    expect("running, budget", large_list(t, 0.25, 23, 4), SNOWGIMMER_BUDGET_EXHAUSTED, 23, 0, 0.25);
+}
+
+/* 2 comes with 65 weights, and in every other call with 24. */
+static void sizes(void) {
+    const size_t most = SNOWGIMMER_LARGEST_SEARCHED;
+    const struct large *t = large_table(most, 0.5, 2.0, 3.0);
+    expect("64 weights", large_nearest(t, 0.5, 100, 2, 3), SNOWGIMMER_SUCCESS, 64, 0, 0.0);
+    expect("64 weights, list", large_list(t, 0.5, 100, 2), SNOWGIMMER_SUCCESS, 64, 1, 0.0);
+    expect_true("64 weights, list", distances[0] == 0.0 && points[0] == 2 && points[1] == 3 && points[most] == -7);
+    t = large_table(LONG, 0.0, 2.0, 3.0);
+    expect("65 weights", large_nearest(t, 0.5, 100, 0, 0), SNOWGIMMER_TABLE_SIZE, 65, 0, 0.0);
+    expect("65 weights, list", large_list(t, 0.5, 100, 2), SNOWGIMMER_TABLE_SIZE, 65, 0, 0.0);
+    t = large_table(LARGE, 0.0, 2.0, 3.0);
+    const size_t n = LARGE;
+    int64_t out[LARGE] = {0};
+    double coefficients[LARGE] = {0.0};
+    expect("24 weights, mu too short", snowgimmer_nearest(t->weights, n, t->mu, n * n - 1, t->target, n, out, n, 0.5,
+        100, &first, &second, &real), SNOWGIMMER_TABLE_SIZE, 24, 0, 0.0);
+    expect("24 weights, seeded", snowgimmer_nearest_seeded(t->weights, n, t->mu, n * n, t->target, n, out, n, out, n,
+        99.0, 100, &first, &second, &real), SNOWGIMMER_TABLE_SIZE, 24, 0, 0.0);
+    expect("24 weights, ml", snowgimmer_nearest_ml(t->weights, n, t->mu, n * n, t->target, n, out, n, 100, &first,
+        &second, &real), SNOWGIMMER_TABLE_SIZE, 24, 0, 0.0);
+    expect("24 weights, prepared", snowgimmer_prepared_nearest_ml(t->weights, n, t->mu, n * n, points, n * n, points,
+        n * n, t->target, n, out, n, 100, &first, &second, &real), SNOWGIMMER_TABLE_SIZE, 24, 0, 0.0);
+    expect("24 weights, plane", snowgimmer_nearest_plane(t->weights, n, t->mu, n * n, coefficients, n, out, n, &first,
+        &second, &real), SNOWGIMMER_TABLE_SIZE, 24, 0, 0.0);
+    expect("24 weights, distance", snowgimmer_distance(t->weights, n, t->mu, n * n, t->target, n, out, n, &first,
+        &second, &real), SNOWGIMMER_TABLE_SIZE, 24, 0, 0.0);
+}
+
+/* A list with n = 64 of all 2^count points whose first coordinates are 0 or 1 and whose others are 0, all as near. */
+static void halves(size_t count) {
+    struct large t = *large_table(SNOWGIMMER_LARGEST_SEARCHED, 0.0, 0.0, 0.0);
+    for (size_t i = 0; i < t.n; i++) {
+        t.target[i] = i < count ? 0.5 : 0.0;
+        if (i >= count) t.weights[i] = 4.0;
+    }
+    const size_t all = (size_t)1 << count, most = SNOWGIMMER_LARGEST_LIST;
+    const double radius = 0.25 * (double)count;
+    expect("halves, too few places", large_list(&t, radius, 100000, all - 1), SNOWGIMMER_LIST_FULL, all, 0, 0.0);
+    expect_true("halves, too few places", distances[0] == -7.0 && points[0] == -7);
+    uint32_t number = large_list(&t, radius, 100000, most);
+    const uint64_t nodes = first;
+    expect("halves", number, SNOWGIMMER_SUCCESS, nodes, all, 0.0);
+    int right = 1;
+    for (size_t k = 0; k < most; k++) {
+        right = right && distances[k] == (k < all ? radius : -7.0);
+        for (size_t i = 0; i < t.n; i++) {
+            const int64_t z = i < count ? (int64_t)(k >> (count - 1 - i) & 1) : 0;
+            right = right && points[k * t.n + i] == (k < all ? z : -7);
+        }
+    }
+    expect_true("halves, the points", right);
+    expect("halves, its nodes", large_list(&t, radius, nodes, all), SNOWGIMMER_SUCCESS, nodes, all, 0.0);
+    number = large_list(&t, radius, nodes - 1, all);
+    expect("halves, a node less", number, SNOWGIMMER_BUDGET_EXHAUSTED, nodes - 1, 0, radius);
+    expect_true("halves, a node less", distances[0] == -7.0 && points[0] == -7);
+}
+
 /* Two tables of three weights, each with a target, a radius and a candidate inside it. In the first the nearest
  * point's terms are 2^-53, 2^-53 and 1, and their sum depends on its order. */
 struct table {
@@ -308,9 +432,6 @@ static const struct table rounded[2] = {
     {{2 * DBL_EPSILON, 2 * DBL_EPSILON, 4.0}, {0.0}, {0.5, 0.5, 0.5}, 1.0 + DBL_EPSILON, {1, 1, 1}},
     {{0.3, 0.7, 1.3}, {0.0, 0.0, 0.0, 0.3, 0.0, 0.0, -0.4, 0.1, 0.0}, {0.1, 2.7, -3.3}, 5.0, {1, 2, -3}},
 };
-
-/* The same bits: 0 and -0 are not. */
-static int same(double one, double two) { return memcmp(&one, &two, sizeof one) == 0; }
 
 /* What a search told is its point's distance, and the first of the list. */
 static void expect_distance(const char *what, uint32_t number, const struct table *t, const int64_t *out) {
@@ -568,12 +689,6 @@ static void met(const char *what, double d1, double other, uint64_t p, uint64_t 
     ratio(what, d1, 0.0, 1, other, p, q, SNOWGIMMER_SUCCESS, expected ? SNOWGIMMER_HOLDS : SNOWGIMMER_OPEN);
 }
 
-static double from_bits(uint64_t bits) {
-    double x;
-    memcpy(&x, &bits, sizeof x);
-    return x;
-}
-
 /* The verdict by 3 and 1 on the list of one weight, lent so many places, as the header's example asks for it. */
 static void ratio_of_list(const char *what, double weight, double t, size_t places, double radius, uint64_t verdict) {
     const double zero = 0.0;
@@ -681,6 +796,11 @@ int main(void) {
     candidate_at_the_radius();
     receiver_coordinates();
     lists();
+    running_centres();
+    sizes();
+    /* 64 coordinates for each: below 94,208 together, and above */
+    halves(10);
+    halves(11);
     for (int i = 0; i < 2; i++) found_distances(&rounded[i]);
     no_dimension();
     minus_zero();

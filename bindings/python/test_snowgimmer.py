@@ -355,6 +355,61 @@ class Prepared(Test):
             self.assertEqual(through(found.point, inverse), reduced.point)
 
 
+class Running(Test):
+    """n from 24 to 64, where the centres are kept from node to node."""
+
+    # the running centre of level 0 is off by 3e-6; 0.09 is the computed distance of 0, 2^40, 0, ..
+    FIRST = [1] * 24, [0.1 if k == 24 else 0 for k in range(576)], [0.3, 2.0**40] + [0] * 22
+
+    def test_centres_that_are_kept(self):
+        self.refused(OutsideRadius, {"radius": 0.09}, nearest, *self.FIRST, 0.09, 1000)
+        self.assertEqual(list_points(*self.FIRST, 0.09, 1000), ((), 23))
+        found = nearest(*self.FIRST, 0.25, 24)
+        self.assertEqual((found.point, found.nodes), ((0, 2**40) + (0,) * 22, 24))
+        self.assertEqual(bits(found.distance), "3FB70A5C29000000")
+        self.assertEqual(list_points(*self.FIRST, 0.25, 24), (((found.distance, found.point),), 24))
+        for call in nearest, list_points:
+            self.refused(BudgetExhausted, {"nodes": 23, "radius": 0.25}, call, *self.FIRST, 0.25, 23)
+        self.refused(ListFull, {"points": 1}, list_points, *self.FIRST, 0.25, 24, 0)
+
+    def test_the_largest(self):
+        rows = [[0.5 if (j, i) == (1, 0) else 0 for i in range(64)] for j in range(64)]
+        table, point = ([1] * 64, rows, [2, 3] + [0] * 62), (2, 3) + (0,) * 62
+        self.assertEqual(nearest(*table, 0.5, 64), (point, 64, 0.0))
+        self.assertEqual(list_points(*table, 0.5, 64), (((0.0, point),), 64))
+
+    def test_long_lists(self):
+        """All points whose first coordinates are 0 or 1: up to 94,208 coordinates together with 10, more with 11."""
+        for halves in 10, 11:
+            weights, target = [1] * halves + [4] * (64 - halves), [0.5] * halves + [0] * (64 - halves)
+            table, count = (weights, [0] * 4096, target, 0.25 * halves, 10**5), 2**halves
+            digits = [tuple(k >> bit & 1 for bit in reversed(range(halves))) for k in range(count)]
+            for places in count, 4096:
+                listed = list_points(*table, places).points
+                expected = tuple((0.25 * halves, each + (0,) * (64 - halves)) for each in digits)
+                self.assertTrue(listed == expected, (halves, places))
+            self.refused(ListFull, {"points": count}, list_points, *table, count - 1)
+
+    def test_sizes(self):
+        """2 comes with 65 weights, and in every other function with 24."""
+        for n in 24, 65:
+            table, zero = ([1] * n, [0] * (n * n)), [0] * n
+            calls = [(nearest_seeded, *table, zero, zero, 1, 100), (nearest_ml, *table, zero, 100),
+                     (prepared_nearest_ml, *table, [0] * (n * n), [0] * (n * n), zero, 100),
+                     (nearest_plane, *table, zero), (triangular_distance, *table, zero, zero)]
+            if n > 64:
+                calls += [(nearest, *table, zero, 1, 100), (list_points, *table, zero, 1, 100)]
+            for call, *arguments in calls:
+                self.refused(TableSize, {"weights": n}, call, *arguments)
+        self.assertEqual((snowgimmer.LARGEST_DIMENSION, snowgimmer.LARGEST_SEARCHED), (23, 64))
+
+    def test_a_verdict(self):
+        """It compares distances, whatever list they are of."""
+        listed = list_points(*self.FIRST, 0.25, 1000)
+        self.assertIs(ratio([each.distance for each in listed.points], 0.25), Ratio.OPEN)
+        self.assertIs(ratio([], 0.09), Ratio.NONE)
+
+
 class References(Test):
     def test_taken(self):
         point = [1, 2]
@@ -574,7 +629,8 @@ class Ratios(Test):
 
 class Refusals(Test):
     def test_tables(self):
-        self.refused(TableSize, {"weights": 24}, nearest, [1] * 24, [0] * 576, [0] * 24, 1, 9)
+        self.refused(TableSize, {"weights": 65}, nearest, [1] * 65, [0] * 4225, [0] * 65, 1, 9)
+        self.refused(TableSize, {"weights": 24}, nearest, [1] * 24, [0] * 575, [0] * 24, 1, 9)
         self.refused(TableSize, {"weights": 2}, nearest, [1, 1], [0] * 3, [0, 0], 1, 9)
         self.refused(MuNonFinite, {"index": 2}, nearest, [1, 1], [0, 0, math.nan, 0], [0, 0], 1, 9)
         self.refused(MuRange, {"index": 2}, nearest, [1, 1], [[0, 0], [-1e16, 0]], [0, 0], 1, 9)
@@ -635,7 +691,8 @@ class Refusals(Test):
         self.assertEqual(named("snowgimmer_refusal"), {0: "Success", **kinds})
         self.assertEqual(named("snowgimmer_verdict"), {k: str(each) for k, each in enumerate(snowgimmer._VERDICTS)})
         self.assertIn(f'SNOWGIMMER_VERSION "{snowgimmer.__version__}"', header)
-        self.assertIn(f"SNOWGIMMER_LARGEST_FACTOR {snowgimmer.LARGEST_FACTOR}\n", header)
+        for name in "LARGEST_DIMENSION", "LARGEST_SEARCHED", "LARGEST_LIST", "LARGEST_FACTOR":
+            self.assertIn(f"SNOWGIMMER_{name} {getattr(snowgimmer, name)}\n", header)
 
     def test_messages(self):
         with self.assertRaises(snowgimmer.Refusal) as caught:
@@ -644,7 +701,11 @@ class Refusals(Test):
         self.assertEqual((refusal.number, refusal.nodes, refusal.radius), (15, 4, 0.25))
         self.assertEqual(str(refusal), "refused 15, BudgetExhausted: the budget ran out after 4 nodes, with the radius "
                                        "at 0.25: a larger budget may do")
-        self.assertIn("at most 23", str(TableSize(weights=24)))
+        self.assertEqual(str(TableSize(weights=65)), "refused 2, TableSize: the table has 65 weights: nearest and "
+                                                     "list_points take at most 64, every other function at most 23")
+        self.assertEqual(str(TableSize(weights=24)), "refused 2, TableSize: the table has 24 weights: nearest and "
+                                                     "list_points alone take more than 23, and need 576 entries of mu "
+                                                     "for them")
         self.assertIn("the 4 entries that 2 weights need", str(TableSize(weights=2)))
         self.assertEqual(str(ReferenceIndex()), "refused 19, ReferenceIndex: the new reference satellite's index is "
                                                 "not below the point's length: give that of a coordinate")

@@ -7,6 +7,7 @@ import struct
 LARGEST, SMALLEST = 2**63 - 1, -(2**63)
 COORD_LIMIT = 2.0**52
 LARGEST_DIMENSION, LARGEST_BUDGET, LARGEST_LIST = 23, 2**60, 4096
+LARGEST_SEARCHED = 64  # of `nearest` and `list`
 LARGEST_FACTOR, LARGEST_PLACES = 1000, 256
 LARGEST_ELEMENT = 2**52
 DEFAULT_SETTINGS = 3, 1, 256  # p, q and places of a job that ends after the budget
@@ -100,14 +101,26 @@ class Walk:
         self.weights, self.mu, self.target, self.budget, self.leaf = weights, mu, target, budget, leaf
         self.standing, self.nodes, self.best, self.found = radius, 0, None, []
         self.point = [0] * len(weights)
+        self.start()
         self.enter(len(weights), 0.0)
+
+    def start(self):
+        """Before the first level is entered."""
+
+    def center(self, level):
+        """Of a level that is entered."""
+        return center(self.mu, self.target, len(self.weights), level, self.point)
+
+    def take(self, level, z):
+        """The level takes z."""
+        self.point[level] = z
 
     def enter(self, levels, partial):
         if levels == 0:
             self.leaf(self, list(self.point), partial)
             return
         level = levels - 1
-        c = center(self.mu, self.target, len(self.weights), level, self.point)
+        c = self.center(level)
         children = Children(c, self.standing - partial, self.weights[level])
         if children.none:
             return
@@ -116,9 +129,9 @@ class Walk:
             if self.nodes >= self.budget:
                 raise Refusal(15, self.nodes, self.standing)
             self.nodes += 1
+            self.take(level, child)
             total = partial + term(self.weights[level], c, child)
             if total <= self.standing:
-                self.point[level] = child
                 self.enter(level, total)
             child = children.next()
 
@@ -130,6 +143,36 @@ def consider(walk, point, d):
 
 def collect(walk, point, d):
     walk.found.append((d, point))
+
+
+# ---- Running centres
+
+class RunningWalk(Walk):
+    """Each level's centre is kept from node to node."""
+
+    def start(self):
+        self.centers = list(self.target)
+        for j in range(len(self.target)):
+            self.add_row(j, self.target[j])
+
+    def add_row(self, row, factor):
+        n = len(self.target)
+        for lower in range(row):
+            self.centers[lower] = self.centers[lower] + factor * self.mu[row * n + lower]
+
+    def center(self, level):
+        return self.centers[level]
+
+    def take(self, level, z):
+        old = self.point[level]
+        if old != z:
+            self.add_row(level, float(old) - float(z))
+            self.point[level] = z
+
+
+def walk_of(n):
+    """The walk of `nearest` and `list`."""
+    return Walk if n <= LARGEST_DIMENSION else RunningWalk
 
 
 # ---- Seeds
@@ -192,9 +235,9 @@ def check_entries(entries):
                 raise Refusal(number, index)
 
 
-def check_table(weights, mu):
+def check_table(weights, mu, largest=LARGEST_DIMENSION):
     n = len(weights)
-    if n > LARGEST_DIMENSION or len(mu) != n * n:
+    if n > largest or len(mu) != n * n:
         raise Refusal(2, n)
     check_entries([(j * n + i, mu[j * n + i]) for j in range(n) for i in range(j)])
     first_fault(5, weights, lambda w: not (math.isfinite(w) and w > 0), range(n))
@@ -261,8 +304,8 @@ def check_target_and_output(n, target, out):
     check_target(target)
 
 
-def check_search(weights, mu, target, out):
-    check_table(weights, mu)
+def check_search(weights, mu, target, out, largest=LARGEST_DIMENSION):
+    check_table(weights, mu, largest)
     check_target_and_output(len(weights), target, out)
 
 
@@ -280,7 +323,7 @@ def check_widened(radius):
 
 def search_within(weights, mu, target, out, radius, budget):
     """The search of all three nearest calls, from the radius. A seeded or ml call never comes to 16."""
-    walk = Walk(weights, mu, target, radius, budget, consider)
+    walk = walk_of(len(weights))(weights, mu, target, radius, budget, consider)
     if walk.best is None:
         raise Refusal(16, radius)
     out[:] = walk.best
@@ -289,7 +332,7 @@ def search_within(weights, mu, target, out, radius, budget):
 
 
 def nearest(weights, mu, target, out, radius, budget):
-    check_search(weights, mu, target, out)
+    check_search(weights, mu, target, out, LARGEST_SEARCHED)
     radius = check_radius(radius)
     check_budget(budget)
     return search_within(weights, mu, target, out, radius, budget)
@@ -340,7 +383,7 @@ def prepared_nearest_ml(weights, mu, transform, inverse, target, out, budget):
 
 
 def list_points(weights, mu, target, distances, points, radius, budget):
-    check_table(weights, mu)
+    check_table(weights, mu, LARGEST_SEARCHED)
     n = len(weights)
     check_length(n, len(target))
     check_target(target)
@@ -348,7 +391,7 @@ def list_points(weights, mu, target, distances, points, radius, budget):
     check_budget(budget)
     if len(distances) > LARGEST_LIST or len(points) != n * len(distances):
         raise Refusal(14, len(distances))
-    walk = Walk(weights, mu, target, radius, budget, collect)
+    walk = walk_of(n)(weights, mu, target, radius, budget, collect)
     if len(walk.found) > len(distances):
         raise Refusal(18, len(walk.found))
     for k, (d, point) in enumerate(sorted(walk.found)):

@@ -15,7 +15,8 @@ Refusal = collections.namedtuple("Refusal", "name meaning remedy")
 REFUSALS = {
     1: Refusal("JobLayout", "the bytes are no job: a count is wrong, they end early or some are left over",
                "make the job file again by `tools/jobfile to-job`; `tools/jobfile to-text` says where it is wrong"),
-    2: Refusal("TableSize", "n is above 23, or mu is not n·n long", "take at most 23 ambiguities, and the whole of mu"),
+    2: Refusal("TableSize", "n is above 23, in the library's nearest and list above 64, or mu is not n·n long",
+               "take at most 23 ambiguities, in these two calls 64, and the whole of mu"),
     3: Refusal("MuNonFinite", "an entry of mu is infinite or not a number", "correct the table where it is made"),
     4: Refusal("MuRange", "an entry of mu is above 2^52 in magnitude", "reduce (decorrelate) the table first"),
     5: Refusal("WeightRange", "a weight is not finite or not above 0",

@@ -1,14 +1,29 @@
 """The nearest integer vector to a target in a triangular table's metric, and the list of all within a radius.
 
-For n weights w, entries mu and a target t, n from 0 to 23, each search is over the vectors z of n signed 64-bit
-integers, by the least
+For n weights w, entries mu and a target t each search is over the vectors z of n signed 64-bit integers, by the least
 
     distance(z) = sum over i of  w[i] * (c[i] - z[i])**2
     c[i]        = t[i] + sum over j > i of  mu[j][i] * (t[j] - z[j])
 
 This is (t-z)' L W L' (t-z) with W = diag(w) and L the unit lower triangular matrix that has mu[j][i] in row j and
 column i. DISTANCE AND RADIUS ARE SQUARES, as this sum is. Both are computed in doubles, and "nearest" is by the
-computed distance.
+computed distance. n is 0 to 64 in `nearest` and `list_points`, and 0 to 23 in every other function with a table.
+
+FROM n = 24 ON the centres c are not computed anew at each node: they are kept, and changed by what one coordinate
+changed by (docs/SPECIFICATION.md, "Running centres"). So their roundings depend on the path of the search. NOT PROMISED
+there, and not so at every input:
+
+    - that no vector is nearer than the point found, or that its distance is the formula's, computed as above
+    - that a list begins at the distance that `nearest` tells
+    - that a list has every vector inside the radius, or no other
+    - that no vector is inside the radius where nothing is found, by OutsideRadius or an empty list
+    - that a verdict of `ratio` says anything of vectors that are not listed
+
+Promised there: the answers are those of that search, for all inputs; a point is n integers, and its distance from 0 to
+the radius; a list is strictly in its order, and has no vector twice; the nodes are at most the budget; an answer other
+than BudgetExhausted is that of every larger budget. The roundings are those of the largest centre on the path. With a
+reduced table and targets of a few cycles they are in the last digits of a distance. So take whole cycles off a large
+target first, and add them to the point.
 
 Arguments, which mean the same in every function that takes them:
 
@@ -64,9 +79,10 @@ from .refusals import (
     OutsideRadius, ReferenceIndex, Refusal, SettingRange, TableSize, WeightRange, WidenedRadius)
 from .refusals import refusal as _refusal
 
-__version__ = "0.9.0"
+__version__ = "0.10.0"
 
-LARGEST_DIMENSION = 23
+LARGEST_DIMENSION = 23  #: the largest n of every function with a table but `nearest` and `list_points`
+LARGEST_SEARCHED = 64  #: the largest n of these two; since 0.10.0, before it was 23
 LARGEST_LIST = 4096
 LARGEST_BUDGET = 2**60
 LARGEST_FACTOR = 1000
@@ -74,7 +90,8 @@ LARGEST_FACTOR = 1000
 __all__ = [
     "nearest", "nearest_seeded", "nearest_ml", "prepared_nearest_ml", "list_points", "triangular_distance",
     "nearest_plane", "round_coefficients", "round_away", "change_reference", "ratio", "TriangleCheck", "Nearest",
-    "Listed", "ListedPoint", "Plane", "Ratio", "LARGEST_DIMENSION", "LARGEST_LIST", "LARGEST_BUDGET", "LARGEST_FACTOR",
+    "Listed", "ListedPoint", "Plane", "Ratio", "LARGEST_DIMENSION", "LARGEST_SEARCHED", "LARGEST_LIST",
+    "LARGEST_BUDGET", "LARGEST_FACTOR",
     "Refusal", "TableSize", "MuNonFinite", "MuRange", "WeightRange", "LengthMismatch", "NonFinite", "InvalidRadius",
     "BudgetRange", "CandidateLength", "CandidateDistance", "CandidateOutside", "WidenedRadius", "ListSize",
     "BudgetExhausted", "OutsideRadius", "ListFull", "ReferenceIndex", "ChangedRange", "SettingRange", "MatrixRange",
@@ -90,7 +107,7 @@ class Nearest(NamedTuple):
     point: Tuple[int, ...]  #: the nearest vector, coordinate 0 first
     nodes: int  #: how many nodes the search tried
     #: the vector's computed distance, a square: exactly its `triangular_distance`; of `prepared_nearest_ml` that of the
-    #: vector before mapping, in the table's coordinates
+    #: vector before mapping, in the table's coordinates; from n = 24 on the sum that the search came to
     distance: float
 
 
@@ -104,7 +121,8 @@ class ListedPoint(NamedTuple):
 class Listed(NamedTuple):
     """What a list gives."""
 
-    points: Tuple[ListedPoint, ...]  #: every vector that is admitted, by distance and then coordinates
+    #: every vector that is admitted, by distance and then coordinates; from n = 24 on those that the search came to
+    points: Tuple[ListedPoint, ...]
     nodes: int  #: how many nodes the search tried
 
 
@@ -120,7 +138,8 @@ class Ratio(enum.Enum):
 
     "Other" is every vector of n integers but the list's first point, listed or not. Every product is rounded once, to a
     double, and where p*d1 overflows the test is not met. What is said here is promised of the distances that a list at
-    this radius gave. A member's value, and its str, is the word that the job program prints. Since 0.7.0.
+    this radius gave, with n up to 23. Of a list with n from 24 on a verdict compares the distances, and says nothing of
+    vectors that are not listed. A member's value, and its str, is the word that the job program prints. Since 0.7.0.
     """
 
     #: there is no distance: no list, or no vector that is admitted at the radius
@@ -187,7 +206,10 @@ def nearest(weights, mu, target, radius, budget):
     """The nearest integer vector inside the radius, as a `Nearest`. The radius and the distance are squares.
 
     Its distance is also the first of `list_points` at the same radius, whose first point may be another one as near.
-    Raises 2 to 9 for the table and the arguments, BudgetExhausted, and OutsideRadius if no vector is inside the radius.
+    n is at most 64. FROM n = 24 ON it is not promised that the point is the nearest, nor that its distance is its
+    computed one or the first of a list, as the module says.
+    Raises 2 to 9 for the table and the arguments, 2 if n is above 64, BudgetExhausted, and OutsideRadius if no vector
+    is found inside the radius.
     """
     table = _Table(weights, mu, target)
     radius, budget, out = _values.double("radius", radius), _budget(budget), table.point()
@@ -270,9 +292,14 @@ def prepared_nearest_ml(weights, mu, transform, inverse, target, budget):
 def list_points(weights, mu, target, radius, budget, places=256):
     """Every integer vector that is admitted at the radius, by distance and then coordinates, as a `Listed`.
 
-    The radius and the distances are squares. `places` is how many points the list has room for, up to 4096. The call
-    needs 0.95 MB of stack, which Python's threads have if threading.stack_size is left alone.
-    Raises 2 to 9 for the table and the arguments, BudgetExhausted, and ListFull if there are more points than places.
+    The radius and the distances are squares. `places` is how many points the list has room for, up to 4096. n is at
+    most 64. FROM n = 24 ON it is not promised that every such vector is listed, or no other, as the module says.
+    The call needs up to 1 MB of stack, which Python's threads have if threading.stack_size is left alone. Where the
+    points have more than 94,208 coordinates together, as 1,473 points with n = 64 have, the search is made twice, so
+    that its time doubles, and the sort takes some milliseconds, up to a second where thousands of points are equally
+    near.
+    Raises 2 to 9 for the table and the arguments, 2 if n is above 64, BudgetExhausted, and ListFull if there are more
+    points than places.
     """
     table = _Table(weights, mu, target)
     radius, budget = _values.double("radius", radius), _budget(budget)
@@ -338,7 +365,8 @@ def ratio(distances, radius, p=3, q=1):
     Where one point alone is listed, the radius stands for d2. `distances` are those of `list_points`, in its order, and
     `radius` is the one that it was given; of a list that was refused, give none. p and q are from 1 to 1000, and p is
     at least q. Any numbers are taken for distances and radius, NaN too, in any order, and only the first two distances
-    count; but what a `Ratio` says of the vectors is promised only of the distances that a list at this radius gave.
+    count; but what a `Ratio` says of the vectors is promised only of the distances that a list at this radius gave,
+    with n up to 23.
 
         >>> [str(ratio([0.25, 0.5], 2, p, q)) for p, q in ((3, 1), (2, 1), (5, 2))]
         ['fails', 'holds', 'fails']

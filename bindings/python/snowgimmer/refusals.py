@@ -36,15 +36,19 @@ def _again(kind, values):
 
 
 class TableSize(Refusal):
-    """2: n is above 23, or mu is not n·n long."""
+    """2: n is above 23, in `nearest` and `list_points` above 64, or mu is not n·n long."""
 
     number = 2
     fields = ("weights",)
 
     def text(self):
         n = self.values["weights"]
+        if n > 64:
+            return (f"the table has {n} weights: nearest and list_points take at most 64, every other function at most "
+                    "23")
         if n > 23:
-            return f"the table has {n} weights, and at most 23 are taken"
+            return (f"the table has {n} weights: nearest and list_points alone take more than 23, and need {n * n} "
+                    "entries of mu for them")
         return f"mu does not have the {n * n} entries that {n} weights need"
 
 
@@ -157,7 +161,7 @@ class BudgetExhausted(Refusal):
 
 
 class OutsideRadius(Refusal):
-    """16: no vector is inside the radius."""
+    """16: no vector is inside the radius; from n = 24 on, none was found inside it."""
 
     number = 16
     fields = ("radius",)

@@ -1,7 +1,7 @@
 //! The nearest integer vector to a target in a triangular table's metric, and the list of all within a radius.
 //!
-//! For n weights w, entries mu and a target t, n from 0 to 23, each search is over the vectors z of n signed 64-bit
-//! integers, by the least
+//! For n weights w, entries mu and a target t each search is over the vectors z of n signed 64-bit integers, by the
+//! least
 //!
 //! ```text
 //! distance(z) = sum over i of  w[i] * (c[i] - z[i])^2
@@ -11,6 +11,9 @@
 //! which is (t-z)' L W L' (t-z) with W = diag(w) and L the unit lower triangular matrix that has `mu[j*n+i]` in row j
 //! and column i. **Distance and radius are squares**, as this sum is; both are computed in doubles, and "nearest" is by
 //! the computed distance. A radius of minus zero counts as 0.
+//!
+//! n is 0 to 64 in [`nearest`] and [`list`](list()), and 0 to 23 in every other call with a table. See
+//! [from n = 24 on](#from-n--24-on).
 //!
 //! mu is n·n entries **row by row**, of which only those below the diagonal, `mu[j*n+i]` with j > i, are read. A matrix
 //! stored column by column gives the nearest point of another table, and no check can tell; [`Table::from_rows`] takes
@@ -42,6 +45,25 @@
 //! The crate needs no standard library, allocates nothing and keeps nothing between calls. The variable SNOWGIMMER_LIB
 //! names the folder of `libsnowgimmer.a`, or the file, while a program is built.
 //!
+//! # From n = 24 on
+//!
+//! [`nearest`] and [`list`](list()) alone take n from 24 to 64. There the centres c are not computed anew at each node:
+//! they are kept, and changed by what one coordinate changed by (docs/SPECIFICATION.md, "Running centres"). So their
+//! roundings depend on the path of the search. **Not promised there**, and not so at every input:
+//!
+//! - that no vector is nearer than the point found, or that its distance is the formula's, computed as above;
+//! - that a list begins at the distance that [`nearest`] tells;
+//! - that a list has every vector inside the radius, or no other;
+//! - that no vector is inside the radius where nothing is found, by [`Refusal::OutsideRadius`] or an empty list;
+//! - that a verdict of [`ratio()`] says anything of vectors that are not listed.
+//!
+//! Promised there: the answers are those of that search, for all inputs; a point is n integers, and its distance from 0
+//! to the radius; a list is strictly in its order, and has no vector twice; the nodes are at most the budget; an answer
+//! other than [`Refusal::BudgetExhausted`] is that of every larger budget; a refusal changes nothing.
+//!
+//! The roundings are those of the largest centre on the path. With a reduced table and targets of a few cycles they are
+//! in the last digits of a distance. So take whole cycles off a large target first, and add them to the point.
+//!
 //! # Why the calls are sound
 //!
 //! `unsafe` stands only in the calls of the library. Each pointer and length comes from one slice that is borrowed for
@@ -63,8 +85,11 @@ pub use refusal::Refusal;
 pub use table::{List, Nearest, Point, Table};
 pub use triangle::TriangleCheck;
 
-/// The largest n.
+/// The largest n of every call with a table but [`nearest`] and [`list`](list()).
 pub const LARGEST_DIMENSION: usize = 23;
+
+/// The largest n of [`nearest`] and [`list`](list()), and of a [`Point`]. Since 0.10.0; before it was 23.
+pub const LARGEST_SEARCHED: usize = 64;
 
 /// The most places that a list may be lent.
 pub const LARGEST_LIST: usize = 4096;
@@ -111,13 +136,16 @@ pub struct Found {
     pub nodes: u64,
     /// The point's computed distance, a square: exactly what [`triangular_distance`] gives for it, and for
     /// [`prepared_nearest_ml`] that of the point before mapping, in the table's coordinates. It is finite, and +0 where
-    /// n is 0.
+    /// n is 0. From n = 24 on it is the sum that the search came to, from 0 to the radius.
     pub distance: f64,
 }
 
 /// Finds the nearest integer vector inside the radius, writes it to `out`, coordinate 0 first, and gives the number of
 /// nodes and the vector's distance, which is also the first of a [`list`] at the same radius. The radius and the
 /// distance are squares.
+///
+/// n is at most 64. [From n = 24 on](crate#from-n--24-on) it is not promised that the point is the nearest, nor that its
+/// distance is its computed one or the first of a list. The call needs 60 kB of stack.
 ///
 /// ```
 /// let mut out = [0; 2];
@@ -128,7 +156,7 @@ pub struct Found {
 ///
 /// # Errors
 ///
-/// 2 to 9, the table and the call; [`Refusal::BudgetExhausted`]; [`Refusal::OutsideRadius`].
+/// 2 to 9, the table and the call, 2 if n is above 64; [`Refusal::BudgetExhausted`]; [`Refusal::OutsideRadius`].
 pub fn nearest(
     weights: &[f64],
     mu: &[f64],
@@ -341,7 +369,15 @@ pub struct Listed {
 
 /// Lists every integer vector that is admitted at the radius, by distance and then coordinates: the distances go to
 /// `distances`, at most 4,096, and n coordinates for each to `points`, which is n times as long. What lies behind
-/// the last point stays as it was. The radius and the distances are squares. The call needs about 0.95 MB of stack.
+/// the last point stays as it was. The radius and the distances are squares.
+///
+/// n is at most 64. [From n = 24 on](crate#from-n--24-on) it is not promised that every such vector is listed, or no
+/// other: the list has the points that the search came to.
+///
+/// With at most 256 places and 5,888 coordinates in `points`, as 92 places have with n = 64, the call needs 0.15 MB of
+/// stack; with at most 32,768 coordinates 0.5 MB; else 1 MB. A thread's usual 2 MB are enough. Where the points have
+/// more than 94,208 coordinates together, as 1,473 points with n = 64 have, the search is made twice, so that its time
+/// doubles, and the sort takes some milliseconds, up to a second where thousands of points are equally near.
 ///
 /// ```
 /// let (mut distances, mut points) = ([0.0; 4], [7; 4]);
@@ -353,7 +389,8 @@ pub struct Listed {
 ///
 /// # Errors
 ///
-/// 2 to 9, the table and the call; [`Refusal::ListSize`]; [`Refusal::BudgetExhausted`]; [`Refusal::ListFull`].
+/// 2 to 9, the table and the call, 2 if n is above 64; [`Refusal::ListSize`]; [`Refusal::BudgetExhausted`];
+/// [`Refusal::ListFull`].
 pub fn list(
     weights: &[f64],
     mu: &[f64],

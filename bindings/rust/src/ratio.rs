@@ -7,7 +7,8 @@ use core::fmt;
 ///
 /// "Other" is every vector of n integers but the list's first point, listed or not. Every product is rounded once, to a
 /// double, and where p·d1 overflows the test is not met. What is said here is promised of the distances that a list at
-/// this radius wrote.
+/// this radius wrote, with n up to 23. Of a list with n from 24 on a verdict compares the distances, and says nothing of
+/// vectors that are not listed.
 ///
 /// `Display` gives the word that the job program prints: none, holds, fails or open.
 #[derive(Debug, Clone, Copy, PartialEq, Eq, Hash)]
@@ -54,7 +55,7 @@ impl fmt::Display for Ratio {
 ///
 /// Pass the distances that a list wrote, as many as it has points, and the radius that it was given; of a list that was
 /// refused, pass none. Any doubles are taken, NaNs too, in any order, and only the first two are read; but what
-/// [`Ratio`] says of the vectors is promised only of the distances that a list at this radius wrote.
+/// [`Ratio`] says of the vectors is promised only of the distances that a list at this radius wrote, with n up to 23.
 ///
 /// ```
 /// use snowgimmer::{Ratio, Refusal, Table, ratio};

@@ -1,5 +1,6 @@
 //! The numbered refusals, with what each carries.
 
+use crate::{LARGEST_DIMENSION, LARGEST_SEARCHED};
 use core::error::Error;
 use core::fmt;
 
@@ -10,7 +11,7 @@ use core::fmt;
 #[derive(Debug, Clone, Copy, PartialEq)]
 #[non_exhaustive]
 pub enum Refusal {
-    /// 2: more than 23 weights, or mu of another length than n·n.
+    /// 2: more than 23 weights, in `nearest` and `list` more than 64, or mu of another length than n·n.
     TableSize {
         /// How many weights there are.
         weights: usize,
@@ -86,7 +87,7 @@ pub enum Refusal {
         /// The radius that stood when the search stopped.
         radius: f64,
     },
-    /// 16: no vector is inside the radius.
+    /// 16: no vector is inside the radius; from n = 24 on, none was found inside it.
     OutsideRadius {
         /// The radius.
         radius: f64,
@@ -187,8 +188,16 @@ impl fmt::Display for Refusal {
     fn fmt(&self, f: &mut fmt::Formatter<'_>) -> fmt::Result {
         write!(f, "refused {}: ", self.number())?;
         match *self {
-            Self::TableSize { weights: n } if n > 23 => {
-                write!(f, "the table has {n} weights, and at most 23 are taken")
+            Self::TableSize { weights: n } if n > LARGEST_SEARCHED => {
+                write!(f, "the table has {n} weights: nearest and list take at most 64, every other call at most 23")
+            }
+            Self::TableSize { weights: n } if n > LARGEST_DIMENSION => {
+                write!(
+                    f,
+                    "the table has {n} weights: nearest and list alone take more than 23, and need {} entries of mu \
+                    for them",
+                    n * n
+                )
             }
             Self::TableSize { weights: n } => write!(f, "mu does not have the {} entries that {n} weights need", n * n),
             Self::MuNonFinite { index } => write!(f, "mu[{index}] is not finite"),

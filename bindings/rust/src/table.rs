@@ -1,13 +1,13 @@
 //! A table with its calls as methods, and what they give.
 
-use crate::{Found, LARGEST_DIMENSION, Refusal};
+use crate::{Found, LARGEST_SEARCHED, Refusal};
 use core::fmt;
 use core::ops::{Deref, DerefMut};
 
 /// A table: n weights and n·n entries mu, row by row. The library reads `mu[j*n+i]` where j > i and no other.
 ///
-/// What a table must be (n at most 23, mu n·n long, weights above 0, entries up to 2^52 in magnitude) the library
-/// checks at every call.
+/// What a table must be (n at most 64 for [`Table::nearest`] and [`Table::list`] and at most 23 for the others, mu n·n
+/// long, weights above 0, entries up to 2^52 in magnitude) the library checks at every call.
 #[derive(Debug, Clone, Copy, PartialEq)]
 pub struct Table<'a> {
     weights: &'a [f64],
@@ -47,7 +47,8 @@ impl<'a> Table<'a> {
         self.weights.len()
     }
 
-    /// The nearest integer vector inside the radius, a square.
+    /// The nearest integer vector inside the radius, a square. n is at most 64;
+    /// [from n = 24 on](crate#from-n--24-on) it is not promised that no vector is nearer.
     ///
     /// # Errors
     ///
@@ -114,7 +115,9 @@ impl<'a> Table<'a> {
     }
 
     /// Every integer vector that is admitted at the radius, by distance and then coordinates, in the places lent: one of
-    /// `distances`, at most 4,096, and n of `points` for each vector. The call needs about 0.95 MB of stack.
+    /// `distances`, at most 4,096, and n of `points` for each vector. n is at most 64;
+    /// [from n = 24 on](crate#from-n--24-on) it is not promised that every such vector is listed, or no other. The call
+    /// needs up to 1 MB of stack, with few places 0.15 MB ([`list`](crate::list)).
     ///
     /// ```
     /// let table = snowgimmer::Table::from_rows(&[1.0, 1.0], &[[0.0, 0.0], [0.5, 0.0]]);
@@ -188,22 +191,22 @@ pub struct Nearest {
     pub nodes: u64,
     /// The vector's computed distance, a square: exactly what [`Table::triangular_distance`] gives for it, and for
     /// [`Table::prepared_nearest_ml`] that of the vector before mapping, in the table's coordinates. It is finite, and
-    /// +0 where n is 0. Since 0.3.0.
+    /// +0 where n is 0. From n = 24 on it is the sum that the search came to, from 0 to the radius. Since 0.3.0.
     pub distance: f64,
 }
 
-/// A vector of up to 23 integers, coordinate 0 first: a slice by value.
+/// A vector of up to 64 integers, coordinate 0 first: a slice by value.
 #[derive(Clone, Copy, PartialEq, Eq, Hash)]
 pub struct Point {
     // zero from the dimension on
-    coordinates: [i64; LARGEST_DIMENSION],
+    coordinates: [i64; LARGEST_SEARCHED],
     dimension: usize,
 }
 
 impl Point {
     /// A point for the library to write. With more weights than it can have coordinates the library refuses the table.
     fn zero(dimension: usize) -> Self {
-        Self { coordinates: [0; LARGEST_DIMENSION], dimension: dimension.min(LARGEST_DIMENSION) }
+        Self { coordinates: [0; LARGEST_SEARCHED], dimension: dimension.min(LARGEST_SEARCHED) }
     }
 }
 

@@ -43,7 +43,8 @@ fn list_kept(target: f64, places: usize, points: usize, radius: f64, budget: u64
 #[test]
 fn tables() {
     let by = |weights: &[f64], mu: &[f64]| kept(2, |out| nearest(weights, mu, &[0.5; 2], out, 1.0, 9));
-    assert_eq!(by(&[1.0; 24], &[0.0; 576]), Refusal::TableSize { weights: 24 });
+    assert_eq!(by(&[1.0; 65], &[0.0; 4225]), Refusal::TableSize { weights: 65 });
+    assert_eq!(by(&[1.0; 24], &[0.0; 575]), Refusal::TableSize { weights: 24 });
     assert_eq!(by(&[1.0; 2], &[0.0; 3]), Refusal::TableSize { weights: 2 });
     assert_eq!(by(&[1.0; 2], &[0.0, 0.0, f64::NAN, 0.0]), Refusal::MuNonFinite { index: 2 });
     assert_eq!(by(&[1.0; 2], &[0.0, 0.0, -1e16, 0.0]), Refusal::MuRange { index: 2 });
@@ -242,7 +243,19 @@ fn ratios() {
 #[test]
 fn told_in_words() {
     let told = |refusal: Refusal, words: &str| assert_eq!(refusal.to_string(), words);
-    told(Refusal::TableSize { weights: 24 }, "refused 2: the table has 24 weights, and at most 23 are taken");
+    for weights in [65, usize::MAX] {
+        told(
+            Refusal::TableSize { weights },
+            &format!(
+                "refused 2: the table has {weights} weights: nearest and list take at most 64, every other call at most 23"
+            ),
+        );
+    }
+    told(
+        Refusal::TableSize { weights: 24 },
+        "refused 2: the table has 24 weights: nearest and list alone take more than 23, and need 576 entries of mu for \
+        them",
+    );
     told(Refusal::TableSize { weights: 2 }, "refused 2: mu does not have the 4 entries that 2 weights need");
     told(Refusal::MuRange { index: 2 }, "refused 4: mu[2] is above 2^52 in magnitude");
     told(Refusal::LengthMismatch { expected: 2, found: 1 }, "refused 6: a slice has the length 1, not 2");

@@ -1,5 +1,5 @@
-//! The stack that the calls need at n = 23: 1 MB holds a list, 68 kB a search in the receiver's coordinates, and 64 kB the
-//! other searches.
+//! The stack that the calls need. At n = 23: 1 MB holds a list, and 68 kB a search. At n = 64: 2 MB hold a list, and 64 kB
+//! a search.
 
 use snowgimmer::{Found, Refusal, list, nearest, nearest_ml, nearest_seeded, prepared_nearest_ml};
 use std::thread;
@@ -32,9 +32,9 @@ fn search(bytes: usize, call: impl FnOnce(&mut [i64]) -> Result<Found, Refusal> 
 
 #[test]
 fn searches() {
-    search(64 << 10, |out| nearest(&WEIGHTS, &MU, &TARGET, out, 0.0, 1000));
-    search(64 << 10, |out| nearest_seeded(&WEIGHTS, &MU, &TARGET, out, &ZERO, 0.0, 1000));
-    search(64 << 10, |out| nearest_ml(&WEIGHTS, &MU, &TARGET, out, 1000));
+    search(68 << 10, |out| nearest(&WEIGHTS, &MU, &TARGET, out, 0.0, 1000));
+    search(68 << 10, |out| nearest_seeded(&WEIGHTS, &MU, &TARGET, out, &ZERO, 0.0, 1000));
+    search(68 << 10, |out| nearest_ml(&WEIGHTS, &MU, &TARGET, out, 1000));
     search(68 << 10, |out| prepared_nearest_ml(&WEIGHTS, &MU, &IDENTITY, &IDENTITY, &TARGET, out, 1000));
 }
 
@@ -44,4 +44,23 @@ fn lists() {
     let listed = within(1 << 20, || list(&WEIGHTS, &MU, &TARGET, &mut distances, &mut points, 0.0, 1000));
     assert_eq!(listed.map(|l| (l.nodes, l.points)), Ok((N as u64, 1)));
     assert_eq!((distances[0], &points[..N]), (0.0, &ZERO[..]));
+}
+
+/// With n = 64, and all points whose first 11 coordinates are 0 or 1: so many that the search is made twice.
+#[test]
+fn sixty_four_weights() {
+    const N: usize = 64;
+    let (mut weights, mut target) = ([4.0; N], [0.0; N]);
+    weights[..11].fill(1.0);
+    target[..11].fill(0.5);
+    let mu = vec![0.0; N * N];
+    for places in [2048, 4096] {
+        let (mut distances, mut points) = (vec![0.0; places], vec![1; places * N]);
+        let listed = within(2 << 20, || list(&weights, &mu, &target, &mut distances, &mut points, 2.75, 100_000));
+        assert_eq!(listed.map(|l| l.points), Ok(2048));
+        assert_eq!((distances[2047], &points[2047 * N..][..12]), (2.75, &[1, 1, 1, 1, 1, 1, 1, 1, 1, 1, 1, 0][..]));
+    }
+    let mut out = [1; N];
+    let found = within(64 << 10, || nearest(&weights, &mu, &[0.0; N], &mut out, 0.0, 1000)).unwrap();
+    assert_eq!((found.nodes, found.distance, out), (N as u64, 0.0, [0; N]));
 }

@@ -1,6 +1,6 @@
 //! A table's methods against the functions of the same name.
 
-use snowgimmer::{LARGEST_BUDGET, LARGEST_DIMENSION, LARGEST_LIST, Refusal, Table, change_reference};
+use snowgimmer::{LARGEST_BUDGET, LARGEST_DIMENSION, LARGEST_LIST, LARGEST_SEARCHED, Refusal, Table, change_reference};
 
 const WEIGHTS: [f64; 2] = [1.0, 1.0];
 const ROWS: [[f64; 2]; 2] = [[0.0, 0.0], [0.5, 0.0]];
@@ -66,6 +66,12 @@ fn the_largest() {
     let larger = Table::from_rows(&[1.0; N + 1], &[[0.0; N + 1]; N + 1]);
     assert_eq!(larger.nearest_ml(&[3.0; N + 1], 100), Err(Refusal::TableSize { weights: 24 }));
     assert_eq!(larger.nearest_plane(&mut [3.0; N + 1]), Err(Refusal::TableSize { weights: 24 }));
+    const M: usize = LARGEST_SEARCHED;
+    let searched = Table::from_rows(&[1.0; M], &[[0.0; M]; M]);
+    assert_eq!(searched.nearest(&[3.0; M], 0.5, LARGEST_BUDGET).unwrap().point, [3; M]);
+    assert_eq!(searched.nearest_plane(&mut [3.0; M]), Err(Refusal::TableSize { weights: 64 }));
+    let beyond = Table::from_rows(&[1.0; M + 1], &[[0.0; M + 1]; M + 1]);
+    assert_eq!(beyond.nearest(&[3.0; M + 1], 0.5, 100), Err(Refusal::TableSize { weights: 65 }));
     let budget = LARGEST_BUDGET + 1;
     assert_eq!(table().nearest_ml(&TARGET, budget), Err(Refusal::BudgetRange { budget }));
     let (mut distances, mut points) = ([0.0; LARGEST_LIST + 1], [0; 2 * (LARGEST_LIST + 1)]);

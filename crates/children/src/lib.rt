@@ -8,6 +8,7 @@ ghost use Rattle.definitions.specs.Zigzag as Z;
 ghost use Rattle.children.specs.View.{zigzag, atStep, trialOf, levelOf, childOf, movedOf, testedOf, FirstStep, LastStep};
 use distance::term;
 use rounding::rounded_away;
+use rounding::rounded_away_large;
 use rounding::to_double;
 
 // The state of a level's generator: the centre, what remained of the radius on entry and the weight, the integer
@@ -274,4 +275,85 @@ impl Children {
             open_direction(positive, skipped),
         )
     }
+}
+
+// `Children::new` and `Children::next` once more, for the walk with running centres: of this size, a function is inlined
+// where it has one caller only, and each walk is to have its own.
+pub fn new_large(center: f64, remaining: f64, weight: f64) -> Level
+    ensures { λ r. ⌜ r ≡ levelOf (Z.start center remaining weight) ⌝ }
+{
+    let m = rounded_away_large(center);
+    if term(weight, center, m.double) <= remaining {
+        return Level::Open(Children {
+            nearest: m.integer,
+            center,
+            remaining,
+            weight,
+            step: 1,
+            emitted_nearest: false,
+            positive_done: false,
+            negative_done: false,
+        });
+    }
+    Level::Closed
+}
+
+// As `Children::last_tried`.
+fn last_tried_large(g: Children, step: u64, positive: bool) -> Child
+    requires { ⌜ LastStep g step positive ⌝ }
+    ensures { λ r. ⌜ r ≡ childOf (Z.secondStep (Z.none (atStep g step (not positive || g .«positive_done») (positive || g .«negative_done»)))) ⌝ }
+{
+    if done(positive, g.positive_done, g.negative_done) {
+        return Child::End;
+    }
+    let Tested::Passed(last) = g.tested((step + 1) / 2, positive) else {
+        return Child::End;
+    };
+    Child::At(
+        last,
+        Children {
+            step: step + 1,
+            positive_done: either(!positive, g.positive_done),
+            negative_done: either(positive, g.negative_done),
+            ..g
+        },
+    )
+}
+
+// As `Children::tried`.
+fn tried_large(g: Children, step: u64, positive: bool) -> Child
+    requires { ⌜ FirstStep g step positive ⌝ }
+    ensures { λ r. ⌜ r ≡ childOf (Z.secondStep (Z.oneStep (atStep g step (g .«positive_done») (g .«negative_done»)))) ⌝ }
+{
+    let Tested::Passed(t) = g.tested((step + 1) / 2, positive) else {
+        return last_tried_large(g, step + 1, !positive);
+    };
+    Child::At(
+        t,
+        Children {
+            step: step + 1,
+            ..g
+        },
+    )
+}
+
+// As `Children::next`.
+pub fn next_large(g: Children) -> Child
+    requires { ⌜ g .step < 2 ^ 62 ⌝ }
+    ensures { λ r. ⌜ r ≡ childOf (Z.next (zigzag g)) ⌝ }
+{
+    if !g.emitted_nearest {
+        return g.first();
+    }
+    let positive_first = g.center >= to_double(g.nearest);
+    if both(g.positive_done, g.negative_done) {
+        return Child::End;
+    }
+    let positive = upward(g.step, positive_first);
+    let skipped = done(positive, g.positive_done, g.negative_done);
+    tried_large(
+        g,
+        open_step(g.step, skipped),
+        open_direction(positive, skipped),
+    )
 }

@@ -5,7 +5,7 @@ use mathlib.Core.List.{List, [], _∷_}
 use lib.Dec.{T, leb, eqb, eqb→eq}
 use Prim.Native.Nat.{ℕ, zero, suc, _<_}
 use native.Mathlib.Omega.{arith}
-use lib.ListN.{length, getD}
+use lib.ListN.{length, getD, set, replicate}
 use lib.IntN.{ℤ, pos}
 use lib.Ieee.{Float, binary64, sub, le}
 use lib.Ieee.Fits.{and-i, and-l, and-r, eq→eqb}
@@ -35,6 +35,15 @@ pub allI64-at : (zs : List ℤ) (k : ℕ) → T (allI64 zs) → k < length zs �
 allI64-at [] k a below = absurd (omega arith)
 allI64-at (z ∷ zs) zero a below = allI64-head z zs a
 allI64-at (z ∷ zs) (suc k) a below = allI64-at zs k (allI64-tail z zs a) (omega arith)
+
+pub allI64-set : (zs : List ℤ) (k : ℕ) (z : ℤ) → T (allI64 zs) → T (isI64 z) → T (allI64 (set zs k z))
+allI64-set [] k z a i = a
+allI64-set (y ∷ zs) zero z a i = allI64-intro z zs i (allI64-tail y zs a)
+allI64-set (y ∷ zs) (suc k) z a i = allI64-intro y (set zs k z) (allI64-head y zs a) (allI64-set zs k z (allI64-tail y zs a) i)
+
+pub allI64-zeros : (n : ℕ) → T (allI64 (replicate n (pos 0)))
+allI64-zeros zero = allI64-nil
+allI64-zeros (suc n) = allI64-intro (pos 0) (replicate n (pos 0)) tt (allI64-zeros n)
 
 module _ (t : Table) where
   pub vector-is : (zs : List ℤ) → isVector t zs ≡ (eqb (length zs) (dimension t) && allI64 zs)

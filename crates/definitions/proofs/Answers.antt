@@ -2,16 +2,19 @@
 use mathlib.Core.Path.{_≡_, refl, sym, ap, _∙_}
 use mathlib.Core.Bool.{Bool, true, false, cond}
 use mathlib.Core.List.{List, [], _∷_, _++_, map}
-use Prim.Native.Nat.{ℕ}
+use Prim.Native.Nat.{ℕ, _≤_, _<_}
 use native.Mathlib.Omega.{arith}
-use lib.Dec.{ltb}
+use mathlib.Core.Logic.{_⊎_, inl, inr}
+use borrow.Author.Tests.{leb-true, leb-false, le-leb, lt-leb}
+use lib.Dec.{ltb, leb}
 use lib.ListN.{length}
 use lib.IntN.{ℤ}
 use lib.Ieee.{Float}
-use Rattle.definitions.specs.Table.{Table, dimension, largestDimension}
+use Rattle.definitions.specs.Table.{Table, dimension, largestDimension, largestSearched}
 use Rattle.definitions.specs.Walk.{Walked, ended, exhausted}
 use Rattle.definitions.specs.Nearest.{no-best, best, nearestWalk}
 use Rattle.definitions.specs.Listing.{ListPoint, listWalk, sorted}
+use Rattle.definitions.specs.Running.{runningNearest, runningList, nearestSearch, listSearch}
 use Rattle.definitions.specs.Seeds.{widened}
 use Rattle.definitions.specs.Refusals.{Refusal, budgetExhausted, outsideRadius, listFull}
 use Rattle.definitions.specs.Checks.{Verdict, pass, refuse, firstRefusal, handedOn}
@@ -50,9 +53,38 @@ module _ (R : Float) where
   unfolding endOfNearest
   end-point zs S m = refl
 
-pub within-is : (t : Table) (target : List Float) (R : Float) (budget : ℕ) → nearestWithin t target R budget ≡ endOfNearest R (nearestWalk t target R budget)
+pub within-is : (t : Table) (target : List Float) (R : Float) (budget : ℕ) → nearestWithin t target R budget ≡ endOfNearest R (nearestSearch t target R budget)
 unfolding nearestWithin
 within-is t target R budget = refl
+
+-- ---- the walk that a call makes, by n
+pub by-dimension : (t : Table) → (dimension t ≤ 23) ⊎ (23 < dimension t)
+by-dimension t = go (leb (dimension t) 23) refl
+  where
+    go : (b : Bool) → leb (dimension t) 23 ≡ b → (dimension t ≤ 23) ⊎ (23 < dimension t)
+    go true e = inl (leb-true (dimension t) 23 e)
+    go false e = inr (leb-false (dimension t) 23 e)
+
+module _ (t : Table) (target : List Float) (R : Float) (budget : ℕ) where
+  pub search-small : dimension t ≤ 23 → nearestSearch t target R budget ≡ nearestWalk t target R budget
+  unfolding nearestSearch
+  search-small h = simp le-leb
+
+  pub search-large : 23 < dimension t → nearestSearch t target R budget ≡ runningNearest t target R budget
+  unfolding nearestSearch
+  search-large h = simp lt-leb
+
+  pub list-search-small : dimension t ≤ 23 → listSearch t target R budget ≡ listWalk t target R budget
+  unfolding listSearch
+  list-search-small h = simp le-leb
+
+  pub list-search-large : 23 < dimension t → listSearch t target R budget ≡ runningList t target R budget
+  unfolding listSearch
+  list-search-large h = simp lt-leb
+
+-- the search of all three up to dimension 23
+pub within-small : (t : Table) (target : List Float) (R : Float) (budget : ℕ) → dimension t ≤ 23 → nearestWithin t target R budget ≡ endOfNearest R (nearestWalk t target R budget)
+within-small t target R budget h = within-is t target R budget ∙ ap (endOfNearest R) (search-small t target R budget h)
 
 pub output-found : (a : NearestPoint) (out : List ℤ) → nearestOutput (found a) out ≡ a .point
 unfolding nearestOutput
@@ -63,19 +95,19 @@ unfolding nearestOutput
 output-refused e out = refl
 
 module _ (t : Table) (target : List Float) (out : List ℤ) (R : Float) (budget : ℕ) where
-  pub nearest-checks-are : nearestChecks largestDimension t target out R budget ≡ firstRefusal (checksOfNearest largestDimension t target out R budget)
+  pub nearest-checks-are : nearestChecks largestSearched t target out R budget ≡ firstRefusal (checksOfNearest largestSearched t target out R budget)
   unfolding nearestChecks
   nearest-checks-are = refl
 
-  pub nearest-is : nearest t target out R budget ≡ after (nearestChecks largestDimension t target out R budget) (nearestWithin t target (handedOn R) budget)
+  pub nearest-is : nearest t target out R budget ≡ after (nearestChecks largestSearched t target out R budget) (nearestWithin t target (handedOn R) budget)
   unfolding nearest
   nearest-is = refl
 
-  pub nearest-checked : nearestChecks largestDimension t target out R budget ≡ pass → nearest t target out R budget ≡ nearestWithin t target (handedOn R) budget
-  nearest-checked q = nearest-is ∙ after-pass (nearestChecks largestDimension t target out R budget) (nearestWithin t target (handedOn R) budget) q
+  pub nearest-checked : nearestChecks largestSearched t target out R budget ≡ pass → nearest t target out R budget ≡ nearestWithin t target (handedOn R) budget
+  nearest-checked q = nearest-is ∙ after-pass (nearestChecks largestSearched t target out R budget) (nearestWithin t target (handedOn R) budget) q
 
-  pub nearest-refused : (e : Refusal) → nearestChecks largestDimension t target out R budget ≡ refuse e → nearest t target out R budget ≡ refused e
-  nearest-refused e q = nearest-is ∙ after-refuse (nearestChecks largestDimension t target out R budget) (nearestWithin t target (handedOn R) budget) e q
+  pub nearest-refused : (e : Refusal) → nearestChecks largestSearched t target out R budget ≡ refuse e → nearest t target out R budget ≡ refused e
+  nearest-refused e q = nearest-is ∙ after-refuse (nearestChecks largestSearched t target out R budget) (nearestWithin t target (handedOn R) budget) e q
 
 -- ---- seeded and ml: the search of `nearest` at the widened radius
 pub widened-search-is : (t : Table) (target : List Float) (R : Float) (budget : ℕ) → widenedSearch t target R budget ≡ nearestWithin t target (widened (dimension t) R) budget
@@ -165,19 +197,19 @@ unfolding coordinates
 coordinates-cons p ps = refl
 
 module _ (t : Table) (target : List Float) (distances : List Float) (points : List ℤ) (R : Float) (budget : ℕ) where
-  pub list-checks-are : listChecks largestDimension t target distances points R budget ≡ firstRefusal (checksOfList largestDimension t target distances points R budget)
+  pub list-checks-are : listChecks largestSearched t target distances points R budget ≡ firstRefusal (checksOfList largestSearched t target distances points R budget)
   unfolding listChecks
   list-checks-are = refl
 
-  pub list-is : list t target distances points R budget ≡ after (listChecks largestDimension t target distances points R budget) (endOfList (length distances) (listWalk t target (handedOn R) budget))
+  pub list-is : list t target distances points R budget ≡ after (listChecks largestSearched t target distances points R budget) (endOfList (length distances) (listSearch t target (handedOn R) budget))
   unfolding list
   list-is = refl
 
-  pub list-checked : listChecks largestDimension t target distances points R budget ≡ pass → list t target distances points R budget ≡ endOfList (length distances) (listWalk t target (handedOn R) budget)
-  list-checked q = list-is ∙ after-pass (listChecks largestDimension t target distances points R budget) (endOfList (length distances) (listWalk t target (handedOn R) budget)) q
+  pub list-checked : listChecks largestSearched t target distances points R budget ≡ pass → list t target distances points R budget ≡ endOfList (length distances) (listSearch t target (handedOn R) budget)
+  list-checked q = list-is ∙ after-pass (listChecks largestSearched t target distances points R budget) (endOfList (length distances) (listSearch t target (handedOn R) budget)) q
 
-  pub list-refused : (e : Refusal) → listChecks largestDimension t target distances points R budget ≡ refuse e → list t target distances points R budget ≡ refused e
-  list-refused e q = list-is ∙ after-refuse (listChecks largestDimension t target distances points R budget) (endOfList (length distances) (listWalk t target (handedOn R) budget)) e q
+  pub list-refused : (e : Refusal) → listChecks largestSearched t target distances points R budget ≡ refuse e → list t target distances points R budget ≡ refused e
+  list-refused e q = list-is ∙ after-refuse (listChecks largestSearched t target distances points R budget) (endOfList (length distances) (listSearch t target (handedOn R) budget)) e q
 
 -- ---- round, nearest_plane
 pub round-is : (coefficients : List Float) (out : List ℤ) → round coefficients out ≡ firstRefusal (checksOfRound coefficients out)

@@ -1,6 +1,7 @@
 -- Laws about the definitions.
 pub mod Cases
 pub mod PreparedCases
+pub mod RunningCases
 pub mod Distances
 pub mod Admissions
 pub mod Steps
@@ -8,6 +9,7 @@ pub mod Zigzags
 pub mod Turns
 pub mod Fuel
 pub mod Leaves
+pub mod Running
 pub mod ListedOrder
 pub mod WalkLeaves
 pub mod Verdicts

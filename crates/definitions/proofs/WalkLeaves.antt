@@ -19,11 +19,13 @@ use Rattle.definitions.specs.Distance.{center, term}
 use Rattle.definitions.specs.Zigzag.{Zigzag, Next, child, none, open-level, no-children, start, passesTest, upward, candidate, afterStep, oneStep, bothDone, secondStep, next}
 use Rattle.definitions.specs.Walk.{Walked, ended, exhausted, Leaf, Descent, Centers, still, descendIf, visit, tryChildren, tryLevel, walk}
 use Rattle.definitions.specs.Listing.{ListPoint, collect, listWalk}
+use Rattle.definitions.specs.Running.{initializeCenters, Beside, beside, onlyKept, leafBeside, runningCenters, runningList}
 use Rattle.definitions.proofs.Distances.{term-is}
 use Rattle.definitions.proofs.Steps.{secondStep-child, secondStep-none, next-is}
 use Rattle.definitions.proofs.Zigzags.{passes-is, startAt, start-is, directionDone, step-is}
 use Rattle.definitions.proofs.Turns.{visit-exhausted, visit-counted, descends, prunes, children-unfueled, children-exhausted, children-none, children-child, level-closed, level-open, enter-exhausted, enter-ended, leaf-exhausted, leaf-ended, walk-leaf, walk-level}
 use Rattle.definitions.proofs.Leaves.{collect-is, listWalk-is}
+use Rattle.definitions.proofs.Running.{runningWalk-is, runningList-is}
 use Rattle.definitions.proofs.ListedOrder.{Listed}
 
 -- ---- the children of a level, of centre c and weight w
@@ -129,3 +131,15 @@ pub list-walk-keeps : (Q : List ListPoint → Type 0) (t : Table) (target : List
 list-walk-keeps Q t target R budget weights nothing more ps S m e =
     subst (EndsWith Q) (sym (listWalk-is t target R budget) ∙ e)
     (walk-keeps Q collect (still (center t target)) t budget (λ level z k q. q) weights (λ zs d l n k S m q. rw (collect-is zs d k S m) (more (record { distance = d; point = zs }) k (record { distance = n; coordinates = l }) q)) [] R nothing)
+
+-- the same with running centres
+pub running-list-keeps : (Q : List ListPoint → Type 0) (t : Table) (target : List Float) (R : Float) (budget : ℕ) → ((level : ℕ) → level < dimension t → Weight binary64 (weight t level)) →
+    Q [] → ((p : ListPoint) (ps : List ListPoint) → Listed (dimension t) p → Q ps → Q (p ∷ ps)) → (ps : List ListPoint) (S : Float) (m : ℕ) → runningList t target R budget ≡ ended ps S m → Q ps
+running-list-keeps Q t target R budget weights nothing more ps S m e =
+    subst (EndsWith Q) (sym (runningList-is t target R budget ∙ runningWalk-is t target collect [] R budget) ∙ e)
+    (only (walk (leafBeside collect) (runningCenters t) t budget (dimension t) [] plusZero (ended (beside [] (initializeCenters t target)) R 0)) (walk-keeps (λ b. Q (b .kept)) (leafBeside collect) (runningCenters t) t budget (λ level z k q. q) weights
+    (λ zs d l n b S m q. rw (collect-is zs d (b .kept) S m) (more (record { distance = d; point = zs }) (b .kept) (record { distance = n; coordinates = l }) q)) (beside [] (initializeCenters t target)) R nothing))
+  where
+    only : (w : Walked (Beside (List ListPoint))) → EndsWith (λ b. Q (b .kept)) w → EndsWith Q (onlyKept w)
+    only (ended b S m) q = q
+    only (exhausted m S) q = tt

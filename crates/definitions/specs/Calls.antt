@@ -6,11 +6,12 @@ use lib.Dec.{ltb}
 use lib.ListN.{length, drop}
 use lib.IntN.{ℤ}
 use lib.Ieee.{Float}
-use Rattle.definitions.specs.Table.{Table, dimension, largestDimension}
+use Rattle.definitions.specs.Table.{Table, dimension, largestDimension, largestSearched}
 use Rattle.definitions.specs.Distance.{partial, distance}
 use Rattle.definitions.specs.Walk.{Walked, ended, exhausted}
-use Rattle.definitions.specs.Nearest.{Best, no-best, best, nearestWalk}
-use Rattle.definitions.specs.Listing.{ListPoint, listWalk, sorted}
+use Rattle.definitions.specs.Nearest.{Best, no-best, best}
+use Rattle.definitions.specs.Listing.{ListPoint, sorted}
+use Rattle.definitions.specs.Running.{nearestSearch, listSearch}
 use Rattle.definitions.specs.Seeds.{rounded, nearestPlane, widened}
 use Rattle.definitions.specs.Refusals.{Refusal, budgetExhausted, outsideRadius, listFull}
 use Rattle.definitions.specs.Checks.{Verdict, pass, refuse, firstRefusal, tableChecks, lengthCheck, planeLengthCheck, targetCheck, finiteCheck, radiusCheck, handedOn, budgetCheck, candidateLengthCheck, candidateDistanceCheck, candidateOutsideCheck, widenedRadiusCheck, listSizeCheck}
@@ -40,8 +41,8 @@ endOfNearest R (ended (best zs) standing nodes) = found (record { nodes = nodes;
 
 -- the search of all three, once their checks have passed: the walk from R
 unfoldable pub nearestWithin : Table → List Float → Float → ℕ → Answer NearestPoint
-unfolding endOfNearest nearestWalk
-nearestWithin t target R budget = endOfNearest R (nearestWalk t target R budget)
+unfolding endOfNearest nearestSearch
+nearestWithin t target R budget = endOfNearest R (nearestSearch t target R budget)
 
 -- 6 (target, then output) and 7
 abbrev pub targetChecks : ℕ → List Float → List ℤ → List Verdict
@@ -64,7 +65,7 @@ nearestChecks largest t target out R budget = firstRefusal (checksOfNearest larg
 unfoldable pub nearest : Table → List Float → List ℤ → Float → ℕ → Answer NearestPoint
 unfolding after nearestChecks nearestWithin
 nearest t target out R budget =
-    after (nearestChecks largestDimension t target out R budget) (nearestWithin t target (handedOn R) budget)
+    after (nearestChecks largestSearched t target out R budget) (nearestWithin t target (handedOn R) budget)
 
 -- the search of a seeded or ml call: that of `nearest`, at the widened radius
 unfoldable pub widenedSearch : Table → List Float → Float → ℕ → Answer NearestPoint
@@ -172,9 +173,9 @@ listChecks largest t target distances points R budget = firstRefusal (checksOfLi
 
 -- `list`
 unfoldable pub list : Table → List Float → List Float → List ℤ → Float → ℕ → Answer ListAnswer
-unfolding after listChecks endOfList listWalk
+unfolding after listChecks endOfList listSearch
 list t target distances points R budget =
-    after (listChecks largestDimension t target distances points R budget) (endOfList (length distances) (listWalk t target (handedOn R) budget))
+    after (listChecks largestSearched t target distances points R budget) (endOfList (length distances) (listSearch t target (handedOn R) budget))
 
 -- the first places hold what is written, and those after them what they held
 abbrev pub written : {A : Type 0} → List A → List A → List A

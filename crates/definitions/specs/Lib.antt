@@ -8,6 +8,7 @@ pub mod Zigzag
 pub mod Walk
 pub mod Nearest
 pub mod Listing
+pub mod Running
 pub mod Rows
 pub mod Seeds
 pub mod Refusals

@@ -32,7 +32,7 @@ unfoldable pub consider : Leaf Best
 unfolding replaces
 consider zs d k standing nodes = cond (replaces zs d k standing) (ended (best zs) d nodes) (ended k standing nodes)
 
--- the walk from its start: above level n - 1, with the partial sum plus zero, without nodes and without a best
+-- the walk up to dimension 23, from its start: above level n - 1, with the partial sum plus zero, without nodes and without a best
 unfoldable pub nearestWalk : Table → List Float → Float → ℕ → Walked Best
 unfolding walk consider center
 nearestWalk t target R budget = walk consider (still (center t target)) t budget (dimension t) [] plusZero (ended no-best R 0)

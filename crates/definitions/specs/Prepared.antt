@@ -5,11 +5,11 @@ use mathlib.Core.List.{List, [], _∷_, _++_, map}
 use lib.Dec.{ltb, eqb}
 use lib.ListN.{length, getD}
 use lib.IntN.{ℤ, pos, natAbs, _*ℤ_}
-use lib.Signed.{leZ}
 use lib.Ieee.{Float, binary64, add, mul, ofInt}
 use Rattle.rounding.specs.Integers.{isI64, toDouble}
 use Rattle.lists.specs.Sums.{sumOf}
 use Rattle.definitions.specs.Table.{Table, dimension, coordinate, plusZero, largestDimension}
+pub use Rattle.definitions.specs.Running.{sameInteger}
 use Rattle.definitions.specs.Seeds.{widened}
 use Rattle.definitions.specs.Refusals.{matrixRange, notInverse, mappedRange}
 use Rattle.definitions.specs.Checks.{Verdict, firstRefusal, refuseIf, refuseAtFirst, countFrom, tableChecks, targetCheck, budgetCheck, candidateDistanceCheck, widenedRadiusCheck}
@@ -25,10 +25,6 @@ element n m row column = getD m (row * n + column) (pos 0)
 unfoldable pub eachBelow : ℕ → (ℕ → Bool) → Bool
 eachBelow zero test = true
 eachBelow (suc k) test = eachBelow k test && test k
-
--- two integers are the same
-abbrev pub sameInteger : ℤ → ℤ → Bool
-sameInteger x y = leZ x y && leZ y x
 
 -- an element of the product a·b, in the whole numbers
 abbrev pub productElement : ℕ → List ℤ → List ℤ → ℕ → ℕ → ℤ

@@ -43,9 +43,13 @@ one = fin false 1 (pos 0)
 abbrev pub coordLimit : Float
 coordLimit = fin false 1 (pos 52)
 
--- the largest n
+-- the largest n of a job and of every call but `nearest` and `list`, and of the walk without running centres
 abbrev pub largestDimension : ℕ
 largestDimension = 23
+
+-- the largest n of `nearest` and `list`
+abbrev pub largestSearched : ℕ
+largestSearched = 64
 
 -- the largest budget
 abbrev pub largestBudget : ℕ

@@ -1,4 +1,4 @@
--- The walk that `nearest` and `list` share: docs/SPECIFICATION.md, "Nearest" and "List". They differ in what a leaf does. Definitions only.
+-- The walk that `nearest` and `list` share: docs/SPECIFICATION.md, "Nearest" and "List". They differ in what a leaf does, and from dimension 24 on in their centres ("Running centres"). Definitions only.
 use Prim.Native.Nat.{ℕ, zero, suc}
 use mathlib.Core.Bool.{Bool, true, false}
 use mathlib.Core.List.{List, _∷_}

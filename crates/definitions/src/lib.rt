@@ -4,6 +4,9 @@
 // The largest n: `largestDimension`.
 pub const LARGEST_DIMENSION: usize = 23;
 
+// The largest n of `nearest` and `list`: `largestSearched`.
+pub const LARGEST_SEARCHED: usize = 64;
+
 // The entries mu of the largest table.
 pub const LARGEST_SQUARE: usize = LARGEST_DIMENSION * LARGEST_DIMENSION;
 

@@ -2,15 +2,21 @@
 ghost use mathlib.Core.Path.{_≡_};
 ghost use mathlib.Core.List.{List};
 ghost use lib.IntN.{ℤ};
-ghost use Rattle.definitions.specs.Table.{largestDimension};
+ghost use Rattle.definitions.specs.Table.{largestDimension, largestSearched};
 ghost use Rattle.definitions.specs.Shapes.{WalkShaped};
 ghost use Rattle.definitions.specs.Lent.{atEntry, atExit, tableAt};
 ghost use Rattle.definitions.specs.Nearest.{nearestWalk};
+ghost use Rattle.definitions.specs.Running.{nearestSearch};
 ghost use Rattle.definitions.specs.Calls as C;
 ghost use Rattle.enumerate.specs.View.{walkedOf, nearestAnswer, NearestWalked, NearestAnswered};
+
+mod large;
+
 use checks::handed_on;
 use checks::nearest_check;
 use definitions::LARGEST_DIMENSION;
+use definitions::LARGEST_SEARCHED;
+use large::running_walk;
 use lists::copy_i64;
 use refusals::Refusal;
 use refusals::Verdict;
@@ -80,6 +86,24 @@ fn nearest_walk(
     Ending::Point(end.nodes, end.radius)
 }
 
+// The walk by n: with running centres from 24 on.
+fn search_walk(
+    weights: &[f64],
+    mu: &[f64],
+    target: &[f64],
+    out: &mut [i64],
+    radius: f64,
+    budget: u64,
+) -> Ending
+    requires { ⌜ WalkShaped largestSearched (now weights) (now mu) (now target) (now out) budget ⌝ }
+    ensures { λ r. ⌜ NearestWalked (nearestSearch (tableAt weights mu) (atEntry target) radius budget) (atEntry out) r (atExit out) ⌝ }
+{
+    if weights.len() <= LARGEST_DIMENSION {
+        return nearest_walk(weights, mu, target, out, radius, budget);
+    }
+    running_walk(weights, mu, target, out, radius, budget)
+}
+
 // The answer that the end of a walk from a radius gives.
 fn answer_of(end: Ending, radius: f64) -> NearestAnswer
     ensures { λ r. ⌜ ((out : List ℤ) → nearestAnswer r out ≡ C.endOfNearest radius (walkedOf end out)) ⌝ }
@@ -105,15 +129,15 @@ pub fn nearest_within(
     radius: f64,
     budget: u64,
 ) -> NearestAnswer
-    requires { ⌜ WalkShaped largestDimension (now weights) (now mu) (now target) (now out) budget ⌝ }
+    requires { ⌜ WalkShaped largestSearched (now weights) (now mu) (now target) (now out) budget ⌝ }
     ensures { λ r. ⌜ NearestAnswered (C.nearestWithin (tableAt weights mu) (atEntry target) radius budget) (atEntry out) r (atExit out) ⌝ }
 {
-    let end = nearest_walk(weights, mu, target, out, radius, budget);
+    let end = search_walk(weights, mu, target, out, radius, budget);
     answer_of(end, radius)
 }
 
 // Finds the nearest integer vector inside the radius and writes it to out, coordinate 0 first; tells the nodes and the
-// point's distance.
+// point's distance. From n = 24 on that is the point at which the walk with running centres ends, and its distance there.
 //
 // Refused: 2 to 9, the table and the call; 15, the budget ran out (nodes, the radius that stood); 16, no vector is
 // inside (radius). A refusal leaves out as it was.
@@ -127,7 +151,7 @@ pub fn nearest(
 ) -> NearestAnswer
     ensures { λ r. ⌜ NearestAnswered (C.nearest (tableAt weights mu) (atEntry target) (atEntry out) radius budget) (atEntry out) r (atExit out) ⌝ }
 {
-    let checked = nearest_check(LARGEST_DIMENSION, weights, mu, target, out, radius, budget);
+    let checked = nearest_check(LARGEST_SEARCHED, weights, mu, target, out, radius, budget);
     if let Verdict::Refuse(e) = checked {
         return NearestAnswer::Refused(e);
     }

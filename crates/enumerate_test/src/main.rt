@@ -1,7 +1,7 @@
 // What `nearest` answers and leaves in the slice that it is lent. Each line of the output has a case's name, then
 // `found`, the node count and the point's distance, as the 16 hexadecimal digits of its bits, or the refusal's number
 // with what it carries in brackets, then the slice at exit, in square brackets. Before the call it holds 7, -8, 9 and
-// the smallest i64, or 7 in 23 places, and so it must after a refusal. Where a case parts the specification from
+// the smallest i64, or 7 in every place, and so it must after a refusal. Where a case parts the specification from
 // another reading, its comment names that.
 //
 // The expected output of every call that the Rust knows is the Rust's: this program compiled as Rust, with the oracle
@@ -343,6 +343,142 @@ fn dimensions() {
     nearest(b"n = 23:", &weights, &mu, &target, &mut out, 5.0, 30000);
 }
 
+// ---- dimensions from 24 on: running centres
+
+// Weights 1; a target that is 0 from coordinate 5 on.
+fn of_24(name: &[u8], entries: [f64; 4], first: [f64; 5], radius: f64, budget: u64) {
+    let weights = [1.0; 24];
+    let mu = mu_of_24(entries);
+    let target = target_of_24(first);
+    let mut out = [7; 24];
+    nearest(name, &weights, &mu, &target, &mut out, radius, budget);
+}
+
+// 2^40; 2^-10, 2^48 and 2^12; 2^51 + 0.5; 2^20 + 0.1. Other readings: a centre summed up when its level is entered, at
+// `by the path`; a coordinate's change as an exact integer, at `rounded change`; old·mu - new·mu, at `change times mu`;
+// coordinates that are left set back to 0, at `not set back`; no update by a child whose sum fails, at `failed child`.
+fn running() {
+    let one_entry = [0.1, 0.0, 0.0, 0.0];
+    let far = [0.3, 1099511627776.0, 0.0, 0.0, 0.0];
+    of_24(b"by the path:", one_entry, far, 0.09, 100);
+    of_24(b"by the path, farther:", one_entry, far, 0.25, 100);
+    let large = [0.0009765625, 281474976710656.0, 4096.0, 0.0];
+    let quarter = [0.0, 0.0, 0.0, 0.25, 0.0];
+    of_24(b"rounded change:", large, quarter, 0.0625, 120);
+    of_24(b"rounded change, 119 nodes:", large, quarter, 0.0625, 119);
+    let tenths = [0.3, 0.0, 0.0, 0.0];
+    let half = [0.0, 2251799813685248.5, 0.25, 0.0, 0.25];
+    of_24(b"change times mu:", tenths, half, 0.5, 25);
+    of_24(b"change times mu, 24 nodes:", tenths, half, 0.5, 24);
+    let two_entries = [0.3333333333333333, 0.0, 0.0, 0.1];
+    let left = [1048576.1, 2251799813685248.5, 0.25, 0.5, 0.0];
+    of_24(b"not set back:", two_entries, left, 2.0, 73);
+    of_24(b"not set back, 72 nodes:", two_entries, left, 2.0, 72);
+    let thirds = [0.0, 0.3333333333333333, 0.0, 0.5, 0.0];
+    of_24(b"failed child:", [1024.0, 0.0, 0.0, 0.0], thirds, 1.0, 70);
+}
+
+// Two levels, and over them 22 that take 0 alone.
+fn below(name: &[u8], two: [f64; 2], entry: f64, first: [f64; 2], radius: f64, budget: u64) {
+    let mut weights = [1048576.0; 24];
+    weights[0] = two[0];
+    weights[1] = two[1];
+    let mu = mu_of_24([entry, 0.0, 0.0, 0.0]);
+    let target = target_of_24([first[0], first[1], 0.0, 0.0, 0.0]);
+    let mut out = [7; 24];
+    nearest(name, &weights, &mu, &target, &mut out, radius, budget);
+}
+
+// The cases of two levels again, with 22 nodes more. Other readings: remaining refreshed, at G; no first test, at H; another
+// direction first; the second of two equal points kept.
+fn walks_of_24() {
+    let small = [4.440892098500626e-16, 4.0];
+    below(b"G, n = 24:", [1.0, 1.0], 0.5, [0.25, 0.5], 2.0, 27);
+    below(b"H, n = 24:", small, 0.0, [0.5, 0.5], 1.0, 24);
+    below(b"upward, n = 24:", [2.5, 0.3], 0.4, [0.5, 0.0], 0.6, 100);
+    below(
+        b"downward, n = 24:",
+        [2.9, 0.4],
+        -0.7,
+        [-1.6, -0.1],
+        0.6,
+        26,
+    );
+    below(
+        b"coordinate 0 first, n = 24:",
+        [4.0, 4.0],
+        1.5,
+        [0.5, 1.5],
+        2.0,
+        100,
+    );
+}
+
+// At `radius on entry` a centre is rounded otherwise, and there are 23 nodes more. Other readings: no second test at level
+// 0; the call's R in R - partial; remaining refreshed.
+fn tests_of_24() {
+    let near = [0.5, 1.4901161193847656e-8];
+    let large = [4.000000000000002, 1.5];
+    below(
+        b"second test, n = 24:",
+        large,
+        0.0,
+        near,
+        1.0000000000000007,
+        25,
+    );
+    below(
+        b"radius on entry, n = 24:",
+        [2.1, 2.4],
+        0.4,
+        [0.0, 2.5],
+        1.7,
+        100,
+    );
+    below(
+        b"remaining kept, n = 24:",
+        [2.0, 1.6],
+        0.0,
+        [0.5, 2.8],
+        1.4,
+        100,
+    );
+}
+
+// Weights 1, no entries; targets 0.5 at a few levels: eight points are equal.
+fn equals_of_64() {
+    let weights = [1.0; 64];
+    let mut mu = [0.0; 4096];
+    hide_unread(&mut mu, 64);
+    let mut target = [0.0; 64];
+    target[0] = 0.5;
+    target[31] = -0.5;
+    target[63] = 1.5;
+    let mut out = [7; 64];
+    nearest(
+        b"n = 64, equals:",
+        &weights,
+        &mu,
+        &target,
+        &mut out,
+        0.75,
+        1000,
+    );
+}
+
+fn searches_of_64() {
+    let mut weights = [1.0; 64];
+    weights[0] = 0.3;
+    weights[31] = 2.5;
+    weights[63] = 1.9;
+    let mu = mu_of_64();
+    let target = target_of_64();
+    let mut out = [7; 64];
+    nearest(b"n = 64, 15:", &weights, &mu, &target, &mut out, 4.0, 17136);
+    nearest(b"n = 64, 16:", &weights, &mu, &target, &mut out, 2.2, 20000);
+    nearest(b"n = 64:", &weights, &mu, &target, &mut out, 4.0, 17137);
+}
+
 // ---- the refusals' order: each call below is also wrong for a later one
 
 // The target's and the output's length, the radius and the budget are wrong too.
@@ -356,14 +492,14 @@ fn table(name: &[u8], weights: &[f64], mu: &[f64]) {
 fn sizes() {
     let none = [0.0; 0];
     let weights_3 = [0.0, nan(), 1.0];
-    let weights_24 = [0.0; 24];
+    let weights_65 = [0.0; 65];
     let mu_1 = [nan(); 1];
     let mu_8 = [nan(); 8];
     let mu_10 = [nan(); 10];
-    let mu_576 = [nan(); 576];
+    let mu_4225 = [nan(); 4225];
     table(b"2 fewer entries:", &weights_3, &mu_8);
     table(b"2 more entries:", &weights_3, &mu_10);
-    table(b"2 more weights:", &weights_24, &mu_576);
+    table(b"2 more weights:", &weights_65, &mu_4225);
     table(b"2 no weights:", &none, &mu_1);
 }
 
@@ -464,6 +600,11 @@ fn main() {
     budgets();
     centers();
     dimensions();
+    running();
+    walks_of_24();
+    tests_of_24();
+    equals_of_64();
+    searches_of_64();
     sizes();
     values();
     sixes();

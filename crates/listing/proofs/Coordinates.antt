@@ -1,6 +1,6 @@
 -- The coordinates of points, one after another. Assumes nothing.
 use mathlib.Core.Path.{_≡_, refl, ap, sym, _∙_}
-use mathlib.Core.List.{List, [], _∷_, _++_, map, append-assoc}
+use mathlib.Core.List.{List, [], _∷_, _++_, map}
 use Prim.Native.Nat.{ℕ, _*_}
 use native.Mathlib.Nat.{zero-mul, suc-mul}
 use native.Mathlib.Omega.{arith}
@@ -11,23 +11,10 @@ use lib.Ieee.{Float}
 use Rattle.definitions.specs.Listing.{ListPoint}
 use Rattle.definitions.specs.Calls.{coordinates}
 use Rattle.definitions.proofs.Answers.{coordinates-nil, coordinates-cons}
-use Rattle.lists.specs.All.{none, more}
-use Rattle.lists.specs.All.{AllBelow}
+use Rattle.lists.specs.All.{All, none, more, AllBelow}
 use Rattle.definitions.specs.Rows.{row}
+use Rattle.definitions.proofs.ListedOrder.{Listed}
 use Rattle.sorting.proofs.Comparison.{row-within}
-
--- one point more
-pub coordinates-more : (ps : List ListPoint) (p : ListPoint) → coordinates (ps ++ p ∷ []) ≡ coordinates ps ++ p .point
-coordinates-more [] p = coordinates-cons p [] ∙ ap (λ (l : List ℤ). p .point ++ l) coordinates-nil ∙ nothing (p .point) ∙ sym (ap (λ (l : List ℤ). l ++ p .point) coordinates-nil)
-  where
-    nothing : (l : List ℤ) → l ++ [] ≡ l
-    nothing [] = refl
-    nothing (x ∷ l) = ap (λ (k : List ℤ). x ∷ k) (nothing l)
-coordinates-more (q ∷ ps) p =
-    coordinates-cons q (ps ++ p ∷ [])
-    ∙ ap (λ (l : List ℤ). q .point ++ l) (coordinates-more ps p)
-    ∙ sym (append-assoc (q .point) (coordinates ps) (p .point))
-    ∙ ap (λ (l : List ℤ). l ++ p .point) (sym (coordinates-cons q ps))
 
 module _ (n : ℕ) (points : List ℤ) where
   -- the distances have no part in them
@@ -47,3 +34,9 @@ module _ (n : ℕ) (points : List ℤ) where
       ap (λ (l : List ℤ). length l) (coordinates-cons (row n ds points i) (map (row n ds points) is))
       ∙ length-append (take n (drop (i * n) points)) (coordinates (map (row n ds points) is))
       ∙ omega (arith, own, coordinates-count ds places e rest, suc-mul (length is) n)
+
+-- n of them for each point that has n
+pub coordinates-length : (n : ℕ) {ps : List ListPoint} → All (Listed n) ps → length (coordinates ps) ≡ length ps * n
+coordinates-length n none = ap (λ (l : List ℤ). length l) coordinates-nil ∙ sym (zero-mul n)
+coordinates-length n (more {x = p} {xs = ps} l rest) =
+    ap (λ (l : List ℤ). length l) (coordinates-cons p ps) ∙ length-append (p .point) (coordinates ps) ∙ omega (arith, l .coordinates, coordinates-length n rest, suc-mul (length ps) n)

@@ -1,11 +1,11 @@
 -- The points at the first places, and what is known of them once they are those found. Assumes nothing.
 use mathlib.Core.Path.{_≡_, refl, ap, sym, _∙_, subst}
-use mathlib.Core.List.{List, [], _∷_, _++_, map, map-append, reverse}
-use Prim.Native.Nat.{ℕ, zero, suc, _+_, _*_, _≤_, _<_}
+use mathlib.Core.List.{List, [], _∷_, _++_, map, reverse}
+use Prim.Native.Nat.{ℕ, _+_, _*_, _≤_, _<_}
 use native.Mathlib.Nat.{mul-le-mul-right}
 use native.Mathlib.Omega.{arith}
 use lib.ListN.{length, getD, take, drop, length-drop, take-append-drop}
-use lib.Seq.{length-take-le, getD-take, take-suc, drop-append-le, take-append-le}
+use lib.Seq.{length-take-le, getD-take, drop-append-le, take-append-le}
 use lib.IntN.{ℤ}
 use lib.Ieee.{Float, nan, binary64}
 use Rattle.rounding.specs.Kinds.{NonNegative}
@@ -17,25 +17,16 @@ use Rattle.lists.proofs.Permutations.{reversed, all-kept}
 use Rattle.definitions.proofs.Verdicts.{counted-below}
 use Rattle.definitions.proofs.ListedOrder.{Listed, listed-order}
 use Rattle.sorting.proofs.Mapping.{rows-counted}
+use Rattle.sorting.proofs.Rows.{rows-distances, all-nonneg}
 use Rattle.sorting.proofs.Comparison.{row-fits}
 use Rattle.sorting.proofs.Sorted.{sorted-reversed}
 
--- ---- the distances of points
+-- ---- the distances at some places
 
 module _ (n : ℕ) (distances : List Float) (points : List ℤ) where
-  -- at some places
   pub distances-at : (is : List ℕ) → map (λ (i : ℕ). getD distances i nan) is ≡ map (λ (p : ListPoint). p .distance) (map (row n distances points) is)
   distances-at [] = refl
   distances-at (i ∷ is) = ap (λ (l : List Float). getD distances i nan ∷ l) (distances-at is)
-
-  -- at the first k
-  distances-first : (k : ℕ) → k ≤ length distances → map (λ (p : ListPoint). p .distance) (rows n k distances points) ≡ take k distances
-  unfolding rows
-  distances-first zero h = refl
-  distances-first (suc k) h =
-      map-append (λ (p : ListPoint). p .distance) (rows n k distances points) (row n distances points k ∷ [])
-      ∙ ap (λ (l : List Float). l ++ getD distances k nan ∷ []) (distances-first k (omega arith))
-      ∙ sym (take-suc distances k nan h)
 
 -- ---- the first places alone
 
@@ -83,13 +74,9 @@ module _ (n k : ℕ) (distances : List Float) (points : List ℤ) (places : k �
 
 -- ---- where they hold the points found
 
-all-nonneg : {n : ℕ} {ps : List ListPoint} → All (Listed n) ps → All (NonNegative binary64) (map (λ (p : ListPoint). p .distance) ps)
-all-nonneg none = none
-all-nonneg (more l a) = more (l .distance) (all-nonneg a)
-
 module _ (n k : ℕ) (distances : List Float) (points : List ℤ) (ps : List ListPoint) (stored : rows n k distances points ≡ reverse ps) (listed : All (Listed n) ps) where
   pub stored-nonneg : k ≤ length distances → All (NonNegative binary64) (take k distances)
-  stored-nonneg h = subst (All (NonNegative binary64)) (distances-first n distances points k h) (all-nonneg (subst (All (Listed n)) (sym stored) (all-kept (reversed ps) listed)))
+  stored-nonneg h = subst (All (NonNegative binary64)) (rows-distances n distances points k h) (all-nonneg (subst (All (Listed n)) (sym stored) (all-kept (reversed ps) listed)))
 
   pub stored-sorted : sorted (rows n k distances points) ≡ sorted ps
   stored-sorted = ap sorted stored ∙ sorted-reversed (listed-order n) ps listed

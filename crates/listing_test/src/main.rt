@@ -588,6 +588,292 @@ fn many() {
     both_ends();
 }
 
+// ---- dimensions from 24 on: running centres
+
+// Four places.
+fn of_24(name: &[u8], entries: [f64; 4], first: [f64; 5], radius: f64, budget: u64) {
+    let weights = [1.0; 24];
+    let mu = mu_of_24(entries);
+    let target = target_of_24(first);
+    let mut distances = [-1.0, -2.0, -3.0, -4.0];
+    let mut points = [103; 96];
+    list(
+        name,
+        &weights,
+        &mu,
+        &target,
+        &mut distances,
+        &mut points,
+        radius,
+        budget,
+    );
+}
+
+// The first table and target of dimension 24, cut to 23: here a centre is summed up, and there is a point. Another
+// reading: running centres for every n.
+fn summed_up() {
+    let weights = [1.0; 23];
+    let mut mu = [0.0; 529];
+    mu[23] = 0.1;
+    hide_unread(&mut mu, 23);
+    let mut target = [0.0; 23];
+    target[0] = 0.3;
+    target[1] = 1099511627776.0;
+    let mut distances = [-1.0, -2.0];
+    let mut points = [103; 46];
+    list(
+        b"summed up, n = 23:",
+        &weights,
+        &mu,
+        &target,
+        &mut distances,
+        &mut points,
+        0.09,
+        23,
+    );
+}
+
+// 2^40; 2^51 + 0.5; 2^20 + 0.1. Other readings: a centre summed up when its level is entered, at `by the path`;
+// old·mu - new·mu, at `change times mu`; coordinates that are left set back to 0, at `not set back`.
+fn running() {
+    let one_entry = [0.1, 0.0, 0.0, 0.0];
+    let far = [0.3, 1099511627776.0, 0.0, 0.0, 0.0];
+    of_24(b"by the path:", one_entry, far, 0.09, 23);
+    of_24(b"by the path, 22 nodes:", one_entry, far, 0.09, 22);
+    of_24(b"by the path, farther:", one_entry, far, 0.25, 24);
+    let tenths = [0.3, 0.0, 0.0, 0.0];
+    let half = [0.0, 2251799813685248.5, 0.25, 0.0, 0.25];
+    of_24(b"change times mu:", tenths, half, 0.5, 26);
+    of_24(b"change times mu, 25 nodes:", tenths, half, 0.5, 25);
+    let two_entries = [0.3333333333333333, 0.0, 0.0, 0.1];
+    let left = [1048576.1, 2251799813685248.5, 0.25, 0.5, 0.0];
+    of_24(b"not set back:", two_entries, left, 0.7, 32);
+}
+
+// Two levels, and over them 22 that take 0 alone. Five places.
+fn below(name: &[u8], two: [f64; 2], entry: f64, first: [f64; 2], radius: f64, budget: u64) {
+    let mut weights = [1048576.0; 24];
+    weights[0] = two[0];
+    weights[1] = two[1];
+    let mu = mu_of_24([entry, 0.0, 0.0, 0.0]);
+    let target = target_of_24([first[0], first[1], 0.0, 0.0, 0.0]);
+    let mut distances = [-1.0, -2.0, -3.0, -4.0, -5.0];
+    let mut points = [103; 120];
+    list(
+        name,
+        &weights,
+        &mu,
+        &target,
+        &mut distances,
+        &mut points,
+        radius,
+        budget,
+    );
+}
+
+// The cases of two levels again, each with 22 nodes more. Other readings: a shrinking radius, at G; the call's R for
+// R - partial; no second test at level 0.
+fn walks_of_24() {
+    let large = [4.000000000000002, 1.5];
+    let near = [0.5, 1.4901161193847656e-8];
+    below(b"G, n = 24:", [1.0, 1.0], 0.5, [0.25, 0.5], 2.0, 29);
+    below(
+        b"first test, n = 24:",
+        [0.8, 3.0],
+        0.4,
+        [2.0, 2.5],
+        0.8,
+        100,
+    );
+    below(
+        b"second test, n = 24:",
+        large,
+        0.0,
+        near,
+        1.0000000000000007,
+        25,
+    );
+}
+
+// 49 points, of which the first and the last two are shown.
+fn rounded_change(name: &[u8], distances: &mut [f64], points: &mut [i64], budget: u64) {
+    let weights = [1.0; 24];
+    let mu = mu_of_24([0.0009765625, 281474976710656.0, 4096.0, 0.0]);
+    let target = target_of_24([0.0, 0.0, 0.0, 0.25, 0.0]);
+    few(
+        name,
+        &weights,
+        &mu,
+        &target,
+        distances,
+        points,
+        0.0625,
+        budget,
+        2,
+        48,
+    );
+}
+
+// The entries are 2^-10, 2^48 and 2^12. Another reading: a coordinate's change as an exact integer.
+fn rounded_changes() {
+    let mut distances = [-1.0; 49];
+    let mut points = [103; 1176];
+    let mut more = [-1.0; 256];
+    let mut more_points = [103; 6144];
+    rounded_change(b"rounded change:", &mut distances, &mut points, 120);
+    rounded_change(
+        b"rounded change, 119 nodes:",
+        &mut more,
+        &mut more_points,
+        119,
+    );
+    rounded_change(
+        b"rounded change, 256 places:",
+        &mut more,
+        &mut more_points,
+        120,
+    );
+}
+
+// Eight points, all equal.
+fn equals_of_64(name: &[u8], distances: &mut [f64], points: &mut [i64]) {
+    let weights = [1.0; 64];
+    let mut mu = [0.0; 4096];
+    hide_unread(&mut mu, 64);
+    let mut target = [0.0; 64];
+    target[0] = 0.5;
+    target[31] = -0.5;
+    target[63] = 1.5;
+    summed(
+        name,
+        &weights,
+        &mu,
+        &target,
+        distances,
+        points,
+        0.75,
+        1000,
+        2,
+        64,
+    );
+}
+
+fn dimension_64() {
+    let mut seven = [-1.0; 7];
+    let mut seven_points = [103; 448];
+    let mut eight = [-1.0; 8];
+    let mut eight_points = [103; 512];
+    equals_of_64(b"n = 64, 7 places:", &mut seven, &mut seven_points);
+    equals_of_64(b"n = 64, 8 places:", &mut eight, &mut eight_points);
+}
+
+// Seven points.
+fn every_row() {
+    let mut weights = [1.0; 64];
+    weights[0] = 0.3;
+    weights[31] = 2.5;
+    weights[63] = 1.9;
+    let mu = mu_of_64();
+    let target = target_of_64();
+    let mut distances = [-1.0; 8];
+    let mut points = [103; 512];
+    few(
+        b"n = 64, every row:",
+        &weights,
+        &mu,
+        &target,
+        &mut distances,
+        &mut points,
+        2.5,
+        28221,
+        8,
+        192,
+    );
+}
+
+// ---- lists of more points than the call has room for
+
+fn weights_of_many() -> [f64; 64] {
+    let mut weights = [4.0; 64];
+    weights[0] = 1.0;
+    weights[1] = 1.0;
+    weights[2] = 1.0;
+    weights[3] = 1.0;
+    weights[4] = 1.0;
+    weights[5] = 1.0;
+    weights[6] = 1.0;
+    weights[7] = 0.5;
+    weights[30] = 0.25;
+    weights[63] = 0.125;
+    weights
+}
+
+fn target_of_many() -> [f64; 64] {
+    let mut target = [0.0; 64];
+    target[0] = 0.5;
+    target[1] = 0.5;
+    target[2] = 0.5;
+    target[3] = 0.5;
+    target[4] = 0.5;
+    target[5] = 0.5;
+    target[6] = 0.5;
+    target[7] = 0.25;
+    target[30] = -0.25;
+    target
+}
+
+// 2,176 points at 2.375, and 1,408 at 2.25.
+fn many_of_64(name: &[u8], distances: &mut [f64], points: &mut [i64], radius: f64) {
+    let weights = weights_of_many();
+    let mut mu = [0.0; 4096];
+    hide_unread(&mut mu, 64);
+    let target = target_of_many();
+    summed(
+        name,
+        &weights,
+        &mu,
+        &target,
+        distances,
+        points,
+        radius,
+        8358,
+        3,
+        64,
+    );
+}
+
+// The call has room for 1,472 points.
+fn room_enough() {
+    let mut distances = [-1.0; 4096];
+    let mut points = [103; 262144];
+    many_of_64(b"1408 in 4096 places:", &mut distances, &mut points, 2.25);
+}
+
+fn every_place() {
+    let mut distances = [-1.0; 4096];
+    let mut points = [103; 262144];
+    many_of_64(b"2176 in 4096 places:", &mut distances, &mut points, 2.375);
+}
+
+fn as_many_places() {
+    let mut distances = [-1.0; 2176];
+    let mut points = [103; 139264];
+    many_of_64(b"2176 in 2176 places:", &mut distances, &mut points, 2.375);
+}
+
+fn one_place_fewer() {
+    let mut distances = [-1.0; 2175];
+    let mut points = [103; 139200];
+    many_of_64(b"2176 in 2175 places:", &mut distances, &mut points, 2.375);
+}
+
+fn longest() {
+    room_enough();
+    every_place();
+    as_many_places();
+    one_place_fewer();
+}
+
 // ---- the refusals' order: each call below is also wrong for a later one
 
 // The target's length, the radius, the budget and the number of points are wrong too.
@@ -609,14 +895,14 @@ fn table(name: &[u8], weights: &[f64], mu: &[f64]) {
 
 fn tables() {
     let weights = [1.0, 0.0, nan()];
-    let weights_24 = [0.0; 24];
+    let weights_65 = [0.0; 65];
     let mu_8 = [nan(); 8];
-    let mu_576 = [nan(); 576];
+    let mu_4225 = [nan(); 4225];
     let mu_3 = [0.0, 0.0, 0.0, BEYOND, 0.0, 0.0, 1.0, nan(), 0.0];
     let mu_4 = [0.0, 0.0, 0.0, LIMIT, 0.0, 0.0, -BEYOND, BEYOND, 0.0];
     let mu_5 = [nan(), nan(), nan(), LIMIT, nan(), nan(), -LIMIT, 1.0, nan()];
     table(b"2 fewer entries:", &weights, &mu_8);
-    table(b"2 more weights:", &weights_24, &mu_576);
+    table(b"2 more weights:", &weights_65, &mu_4225);
     table(b"3:", &weights, &mu_3);
     table(b"4:", &weights, &mu_4);
     table(b"5:", &weights, &mu_5);
@@ -743,6 +1029,13 @@ fn main() {
     sums();
     ends();
     many();
+    summed_up();
+    running();
+    walks_of_24();
+    rounded_changes();
+    dimension_64();
+    every_row();
+    longest();
     tables();
     calls();
     sizes();

@@ -67,3 +67,70 @@ pub fn target_of_23() -> [f64; 23] {
     target[22] = 0.4;
     target
 }
+
+// The entry k of a mu of dimension n, or NaN if that is not read: on or above the diagonal.
+fn read_or_nan(entry: f64, k: usize, n: usize) -> f64 {
+    if n == 0 {
+        return nan();
+    }
+    if k % n < k / n {
+        return entry;
+    }
+    nan()
+}
+
+// Makes every entry of a mu of dimension n that is not read NaN.
+pub fn hide_unread(mu: &mut [f64], n: usize) {
+    let mut k = 0;
+    while k < mu.len() {
+        mu[k] = read_or_nan(mu[k], k, n);
+        k += 1;
+    }
+}
+
+// mu of dimension 24: the entries at 24, 49, 74 and 97, and 0 elsewhere. What is not read is NaN.
+pub fn mu_of_24(entries: [f64; 4]) -> [f64; 576] {
+    let mut mu = [0.0; 576];
+    mu[24] = entries[0];
+    mu[49] = entries[1];
+    mu[74] = entries[2];
+    mu[97] = entries[3];
+    hide_unread(&mut mu, 24);
+    mu
+}
+
+// A target of dimension 24: its first coordinates, and 0 elsewhere.
+pub fn target_of_24(first: [f64; 5]) -> [f64; 24] {
+    let mut target = [0.0; 24];
+    target[0] = first[0];
+    target[1] = first[1];
+    target[2] = first[2];
+    target[3] = first[3];
+    target[4] = first[4];
+    target
+}
+
+// mu of dimension 64. What is not read is NaN.
+pub fn mu_of_64() -> [f64; 4096] {
+    let mut mu = [0.03; 4096];
+    mu[64] = -0.7;
+    mu[2048] = 1.3;
+    mu[2079] = -0.6;
+    mu[4032] = -4.0;
+    mu[4062] = 0.4;
+    mu[4094] = 0.9;
+    hide_unread(&mut mu, 64);
+    mu
+}
+
+// A target of dimension 64.
+pub fn target_of_64() -> [f64; 64] {
+    let mut target = [3.1; 64];
+    target[0] = 0.4;
+    target[1] = -0.3;
+    target[31] = 1.9;
+    target[32] = -5.2;
+    target[62] = -1.1;
+    target[63] = 2.2;
+    target
+}

@@ -2,7 +2,7 @@
 
 -- kinds of values: a weight is finite and above zero, `Within f a x` says that |x| is at most 2^a
 pub use Rattle.rounding.proofs.Value.{Weight, number, nan-fit, sum-fit, zero-nonneg}
-pub use Rattle.rounding.proofs.PowerBounds.{Within, within-more, within-sub, within-add, within-mul, within-ofInt}
+pub use Rattle.rounding.proofs.PowerBounds.{Within, within-more, within-sub, within-add, within-absorb, within-mul, within-ofInt}
 -- from a program's tests and constants to these kinds
 pub use Rattle.rounding.proofs.Comparison.{held, failed, equals-itself, differs}
 pub use Rattle.rounding.proofs.Tests.{within-not-above, nonneg-not-lt, weight-of}

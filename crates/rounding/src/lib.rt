@@ -99,6 +99,28 @@ pub fn rounded_away(v: f64) -> RoundedAway
     }
 }
 
+// The same once more, for the walk with running centres: of this size, a function is inlined where it has one caller only.
+pub fn rounded_away_large(v: f64) -> RoundedAway
+    ensures { λ r. ⌜ IntegerAndDouble v r ⌝ }
+{
+    let near = guessed(v);
+    let double = to_double(near);
+    let off = v - double;
+    if off < 0.5 {
+        if off > -0.5 {
+            return RoundedAway {
+                integer: near,
+                double,
+            };
+        }
+    }
+    let integer = round_away(v);
+    RoundedAway {
+        integer,
+        double: to_double(integer),
+    }
+}
+
 // Whether x is finite: false of the two infinities and of a NaN, true of all else.
 pub fn is_finite(x: f64) -> bool
     ensures { λ r. ⌜ r ≡ finite x ⌝ }

@@ -22,14 +22,15 @@ use Rattle.definitions.proofs.Leaves.{consider-is, nearestWalk-is, collect-is, 
 use Rattle.lists.specs.Places.{places}
 use Rattle.lists.proofs.Places.{places-none}
 use Rattle.distance.proofs.Totals.{residuals-start}
-use Rattle.search.specs.Kept.{Kept, leaf}
+use Rattle.search.specs.Kept.{Kept, leaf, mapped}
 use Rattle.definitions.specs.Rows.{rows}
 use Rattle.search.specs.declared.RecursiveSearch.{RecursiveSearch}
 use Rattle.search.specs.View.{Search, carried, newSearch, seen}
 use Rattle.search.specs.Call.{state, Call, walkOf, Ready}
 use Rattle.search.proofs.NearestLeaf.{considers-is}
 use Rattle.search.proofs.ListLeaf.{stores-is, rows-zero}
-use Rattle.search.proofs.Map.{mapped, SameCenters, walk-map}
+use Rattle.search.proofs.Map.{SameCenters, walk-map}
+pub use Rattle.search.specs.Kept.{bestOnly, listOnly}
 
 -- what is kept before the first leaf
 abbrev pub nothing : Kept
@@ -39,10 +40,7 @@ alike : {K L : Type 0} (f : K → L) (centerOf : ℕ → List ℤ → Float) →
 alike f centerOf = record { same-at = λ level zs k. refl; same-moved = λ level z k. refl }
 
 -- ---- nearest
-abbrev pub bestOnly : Best → Kept
-bestOnly k = record { best = k; count = 0; stored = [] }
-
-considers : (room : ℕ) (zs : List ℤ) (d : Float) (k : Best) (R : Float) (m : ℕ) → leaf false room zs d (bestOnly k) R m ≡ mapped bestOnly (consider zs d k R m)
+pub considers : (room : ℕ) (zs : List ℤ) (d : Float) (k : Best) (R : Float) (m : ℕ) → leaf false room zs d (bestOnly k) R m ≡ mapped bestOnly (consider zs d k R m)
 considers room zs d k R m = considers-is room zs d (bestOnly k) R m ∙ by (replaces zs d k R) ∙ ap (mapped bestOnly) (sym (consider-is zs d k R m))
   where
     by : (b : Bool) → cond b (ended (bestOnly (best zs)) d m) (ended (bestOnly k) R m) ≡ mapped bestOnly (cond b (ended (best zs) d m) (ended k R m))
@@ -53,10 +51,6 @@ pub nearest-instance : (t : Table) (target : List Float) (R : Float) (b room : �
 nearest-instance t target R b room = walk-map bestOnly consider (leaf false room) (still (center t target)) (still (center t target)) (alike bestOnly (center t target)) t b (considers room) (dimension t) [] plusZero (ended no-best R 0) ∙ ap (mapped bestOnly) (sym (nearestWalk-is t target R b))
 
 -- ---- list
--- of the points found, the last first, those that had one of so many places
-abbrev pub listOnly : ℕ → List ListPoint → Kept
-listOnly room ps = record { best = no-best; count = length ps; stored = take room (reverse ps) }
-
 -- one point more among the first so many
 taken : (room : ℕ) (r : ListPoint) (xs : List ListPoint) → cond (ltb (length xs) room) (take room xs ++ r ∷ []) (take room xs) ≡ take room (xs ++ r ∷ [])
 taken room r xs = by (ltb (length xs) room) refl
@@ -67,7 +61,7 @@ taken room r xs = by (ltb (length xs) room) refl
         ap (λ (l : List ListPoint). l ++ r ∷ []) (take-all room xs (omega arith)) ∙ sym (take-all room (xs ++ r ∷ []) (simp length-append (omega arith)))
     by false e = sym (take-append-le room xs (r ∷ []) (ltb-false (length xs) room e))
 
-collects : (room : ℕ) (zs : List ℤ) (d : Float) (ps : List ListPoint) (R : Float) (m : ℕ) → leaf true room zs d (listOnly room ps) R m ≡ mapped (listOnly room) (collect zs d ps R m)
+pub collects : (room : ℕ) (zs : List ℤ) (d : Float) (ps : List ListPoint) (R : Float) (m : ℕ) → leaf true room zs d (listOnly room ps) R m ≡ mapped (listOnly room) (collect zs d ps R m)
 collects room zs d ps R m =
     let r : ListPoint = record { distance = d; point = zs } in
     stores-is room zs d (listOnly room ps) R m

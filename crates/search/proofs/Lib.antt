@@ -3,6 +3,7 @@ pub mod Orders
 pub mod NearestLeaf
 pub mod ListLeaf
 pub mod Turns
+pub mod Levels
 pub mod States
 pub mod Loop
 pub mod Map

@@ -1,20 +1,17 @@
--- What the loop of `run` keeps: the children that are left give, from where the search stands, what the whole walk from this depth gives. Then its turns
--- and its exits. Assumes nothing.
+-- What the loop of `run` keeps: that of `Levels` for its call, and of the state it changes what `Preserved` says. Then its turns and its exits. Assumes nothing.
 use mathlib.Core.Path.{_≡_, refl, ap, sym, _∙_}
 use mathlib.Core.Bool.{Bool, true, false}
 use mathlib.Core.List.{List, _∷_}
-use Prim.Native.Nat.{ℕ, suc, _+_, _-_, _*_, _<_, _≤_}
+use Prim.Native.Nat.{ℕ, suc, _+_, _*_, _<_, _≤_}
 use native.Mathlib.Omega.{arith}
 use lib.IntN.{ℤ}
 use lib.ListN.{length, set, length-set}
 use lib.Ieee.{Float, binary64, add, sub, le}
-use Rattle.rounding.specs.Integers.{toDouble, roundAway}
-use Rattle.definitions.specs.Table.{weight, coordinate, largestDimension}
-use Rattle.definitions.specs.Distance.{center, term}
-use Rattle.definitions.specs.Zigzag.{Zigzag, Next, child, Start, open-level, start, next}
-use Rattle.definitions.specs.Walk.{Walked, ended, exhausted, still, tryChildren, walk}
-use Rattle.definitions.proofs.Turns.{children-none, children-exhausted}
-use Rattle.definitions.proofs.Zigzags.{Follows, startAt, start-opens, next-follows}
+use Rattle.rounding.specs.Integers.{toDouble}
+use Rattle.definitions.specs.Table.{coordinate, largestDimension}
+use Rattle.definitions.specs.Distance.{center}
+use Rattle.definitions.specs.Zigzag.{Start, next}
+use Rattle.definitions.specs.Walk.{Walked, ended, exhausted, still, walk}
 use Rattle.lists.specs.Places.{places}
 use Rattle.distance.specs.Residuals.{residuals, centerSum}
 use Rattle.lists.proofs.Places.{places-set, places-kept, places-next}
@@ -24,28 +21,34 @@ use Rattle.children.specs.declared.Trial.{Trial}
 use Rattle.children.specs.declared.Level.the-variants.{Open, Closed}
 use Rattle.children.specs.declared.Child.the-variants.{At, End}
 use Rattle.children.specs.View.{zigzag, levelOf, childOf}
-use Rattle.children.proofs.Outcomes.{open-of, closed-of, at-of, end-of}
 use Rattle.search.specs.Kept.{Kept, leaf}
 use Rattle.search.specs.View.{Search, seen}
 use Rattle.search.specs.Call.{State, state, Call, size, prefix, walkOf, Ready, Preserved, Returned}
-use Rattle.search.proofs.Turns.{turn-exhausted, turn-pruned, turn-descends, walk-closed, walk-open}
-use Rattle.search.proofs.States.{withChild, withoutBudget, view, keeps, ended-view, view-ended, view-exhausted, centerAt, leafOf, down, walk-ended, unchanged}
+use Rattle.search.proofs.States.{withChild, withoutBudget, view, keeps, ended-view, view-ended, view-exhausted, leafOf, down, walk-ended, unchanged}
+use Rattle.search.proofs.Levels.{Entered, Going}
+use Rattle.search.proofs.Levels as L
 
--- what a level's children come to from the next on, with fuel for so many
-abbrev left : Call → ℕ → ℕ → Next → Walked Kept → Walked Kept
-left q l fuel y w = tryChildren (leafOf q) (still (center (q .table) (q .target))) (q .table) (q .budget) (down q l) l (prefix q) (q .partial) (centerAt q l) fuel y w
+-- the level below a call's coordinates
+abbrev levelOfCall : Call → ℕ → Entered Kept
+levelOfCall q l = record {
+  leaf = leafOf q;
+  centers = still (center (q .table) (q .target));
+  table = q .table;
+  budget = q .budget;
+  level = l;
+  above = prefix q;
+  partial = q .partial;
+  kept = keeps (size q) (q .from);
+  radius = q .from .search .radius;
+  nodes = q .from .search .nodes;
+}
 
 -- at level l: x is what the loop has come to, and g the generator before its next child
 pub record LoopReady (q : Call) (l : ℕ) (x : State) (g : Children) : Type 0 where
-  pub fuel : ℕ
-  pub enough : q .budget - x .search .nodes < fuel
-  pub same : left q l fuel (next (zigzag g)) (ended-view (size q) x) ≡ walkOf q
+  pub going : Going (levelOfCall q l) g (keeps (size q) x) (x .search .radius) (x .search .nodes)
   pub not-exhausted : x .search .exhausted ≡ false
   pub point-length : length (x .search .point) ≡ largestDimension
-  pub step-bound : g .step ≤ 2 * x .search .nodes + 1
   pub listed : x .search .listed + q .from .search .nodes ≤ x .search .nodes + q .from .search .listed
-  pub center-is : g .center ≡ centerAt q l
-  pub weight-is : g .weight ≡ weight (q .table) l
   pub preserved : Preserved q x
 
 -- with a child in hand: g is the generator after it
@@ -64,58 +67,39 @@ module _ {q : Call} (v : Level q) where
   low : v .level < size q
   low = omega (arith, v .depth-is, v .ready .within)
 
-  suc-level : suc (v .level) ≡ q .depth
-  suc-level = omega (arith, v .depth-is)
+  abbrev entered : Entered Kept
+  entered = levelOfCall q (v .level)
+
+  whole-is : L.whole entered ≡ walkOf q
+  whole-is =
+      let e : suc (v .level) ≡ q .depth = omega (arith, v .depth-is) in
+      ap (λ (k : ℕ). down q k (prefix q) (q .partial) (ended-view (size q) (q .from))) e ∙ walk-ended q (v .ready)
 
   -- its centre as the code sums it
   abbrev pub center-sum : Float
   center-sum = centerSum (q .table) (q .target) (q .from .rest) (v .level)
 
-  abbrev pub startOf : Float → Start
-  startOf c = start c (sub binary64 (q .from .search .radius) (q .partial)) (weight (q .table) (v .level))
+  center-is : center-sum ≡ L.centerOf entered
+  center-is = center-below (q .table) (q .target) (q .from .rest) (omega (arith, v .ready .shape .small, v .ready .rest-length)) (q .depth) (v .level) (v .depth-is) (prefix q) (v .ready .rest-above) center-sum refl
 
-  start-of-sum : startOf (centerAt q (v .level)) ≡ startOf center-sum
-  start-of-sum = ap startOf (sym (center-below (q .table) (q .target) (q .from .rest) (omega (arith, v .ready .shape .small, v .ready .rest-length)) (q .depth) (v .level) (v .depth-is) (prefix q) (v .ready .rest-above) center-sum refl))
+  abbrev pub startOf : Float → Start
+  startOf = L.startOf entered
 
   pub level-closed : Closed ≡ levelOf (startOf center-sum) → view (size q) (q .from) ≡ walkOf q
-  level-closed e =
-      view-ended (size q) (q .from) (v .ready .not-exhausted)
-      ∙ sym (walk-closed (leafOf q) (still (center (q .table) (q .target))) (q .table) (q .budget) (v .level) (prefix q) (q .partial) (keeps (size q) (q .from)) (q .from .search .radius) (q .from .search .nodes) (start-of-sum ∙ closed-of _ e))
-      ∙ ap (λ (k : ℕ). down q k (prefix q) (q .partial) (ended-view (size q) (q .from))) suc-level
-      ∙ walk-ended q (v .ready)
+  level-closed e = view-ended (size q) (q .from) (v .ready .not-exhausted) ∙ L.closes entered center-sum center-is e ∙ whole-is
 
   module _ (g : Children) (e : Open g ≡ levelOf (startOf center-sum)) where
-    start-is : startOf (centerAt q (v .level)) ≡ open-level (zigzag g)
-    start-is = start-of-sum ∙ open-of _ g e
-
-    abbrev remaining : Float
-    remaining = sub binary64 (q .from .search .radius) (q .partial)
-
-    generator-is : zigzag g ≡ startAt (centerAt q (v .level)) remaining (weight (q .table) (v .level)) (roundAway (centerAt q (v .level)))
-    generator-is = start-opens (centerAt q (v .level)) remaining (weight (q .table) (v .level)) (zigzag g) start-is
-
-    -- it has given no child
     pub none-given : g .«emitted_nearest» ≡ false
-    none-given = ap (λ (h : Zigzag). h .emittedNearest) generator-is
+    none-given = L.none-given entered center-sum center-is g e
 
     pub level-open : length (q .from .search .point) ≡ largestDimension → LoopReady q (v .level) (q .from) g
-    level-open point-length =
-        let one : g .step ≡ 1 = ap (λ (h : Zigzag). h .step) generator-is in
-        record {
-          fuel = suc (q .budget);
-          enough = omega arith;
-          same =
-              sym (walk-open (leafOf q) (still (center (q .table) (q .target))) (q .table) (q .budget) (v .level) (prefix q) (q .partial) (keeps (size q) (q .from)) (q .from .search .radius) (q .from .search .nodes) (zigzag g) start-is)
-              ∙ ap (λ (k : ℕ). down q k (prefix q) (q .partial) (ended-view (size q) (q .from))) suc-level
-              ∙ walk-ended q (v .ready);
-          not-exhausted = v .ready .not-exhausted;
-          point-length = point-length;
-          step-bound = omega arith;
-          listed = omega arith;
-          center-is = ap (λ (h : Zigzag). h .center) generator-is;
-          weight-is = ap (λ (h : Zigzag). h .weight) generator-is;
-          preserved = unchanged q (v .ready);
-        }
+    level-open point-length = record {
+      going = L.opens entered center-sum center-is g e;
+      not-exhausted = v .ready .not-exhausted;
+      point-length = point-length;
+      listed = omega arith;
+      preserved = unchanged q (v .ready);
+    }
 
 -- ---- a turn of the loop
 pub record Turn (q : Call) : Type 0 where
@@ -126,11 +110,7 @@ pub record Turn (q : Call) : Type 0 where
 
 module _ {q : Call} (u : Turn q) where
   pub children-end : End ≡ childOf (next (zigzag (u .generator))) → view (size q) (u .now) ≡ walkOf q
-  children-end e =
-      view-ended (size q) (u .now) (u .loop .not-exhausted)
-      ∙ sym (children-none (leafOf q) (still (center (q .table) (q .target))) (q .table) (q .budget) (down q (u .at .level)) (u .at .level) (prefix q) (q .partial) (centerAt q (u .at .level)) (u .loop .fuel) _ (keeps (size q) (u .now)) (u .now .search .radius) (u .now .search .nodes))
-      ∙ ap (λ (y : Next). left q (u .at .level) (u .loop .fuel) y (ended-view (size q) (u .now))) (sym (end-of _ e))
-      ∙ u .loop .same
+  children-end e = view-ended (size q) (u .now) (u .loop .not-exhausted) ∙ L.children-end (u .loop .going) e ∙ whole-is (u .at)
 
   pub preserved-exhausted : Preserved q (state (withoutBudget (u .now .search)) (u .now .rest) (u .now .distances) (u .now .points))
   preserved-exhausted = record {
@@ -156,61 +136,11 @@ abbrev pub sum : {q : Call} → Tried q → Float
 sum {q} d = add binary64 (q .partial) (d .trial .term)
 
 module _ {q : Call} (d : Tried q) where
-  abbrev l : ℕ
-  l = d .turn .at .level
+  pub step-after : d .after .step ≤ 2 * d .turn .now .search .nodes + 3
+  step-after = L.step-after (d .turn .loop .going) (d .gives)
 
-  abbrev c : Float
-  c = centerAt q l
-
-  abbrev x : State
-  x = d .turn .now
-
-  abbrev z : ℤ
-  z = d .trial .z
-
-  abbrev fuel : ℕ
-  fuel = d .turn .loop .fuel
-
-  abbrev rest : ℕ → Walked Kept → Walked Kept
-  rest f w = left q l f (next (zigzag (d .after))) w
-
-  some : 0 < fuel
-  some = omega (arith, d .turn .loop .enough)
-
-  next-is : next (zigzag (d .turn .generator)) ≡ child z (zigzag (d .after))
-  next-is = at-of (next (zigzag (d .turn .generator))) (d .trial) (d .after) (d .gives) .0
-
-  follows : Follows 2 (zigzag (d .turn .generator)) (zigzag (d .after))
-  follows = next-follows (zigzag (d .turn .generator)) z (zigzag (d .after)) next-is
-
-  center-after : d .after .center ≡ c
-  center-after = follows .center ∙ d .turn .loop .center-is
-
-  weight-after : d .after .weight ≡ weight (q .table) l
-  weight-after = follows .weight ∙ d .turn .loop .weight-is
-
-  pub step-after : d .after .step ≤ 2 * x .search .nodes + 3
-  step-after = omega (arith, follows .step, d .turn .loop .step-bound)
-
-  -- the trial's term and double
-  term-at : d .trial .term ≡ term (weight (q .table) l) c z
-  term-at =
-      ap (λ (r : Trial). r .term) (at-of (next (zigzag (d .turn .generator))) (d .trial) (d .after) (d .gives) .1)
-      ∙ ap (λ (w : Float). term w (d .after .center) z) weight-after
-      ∙ ap (λ (v : Float). term (weight (q .table) l) v z) center-after
-
-  value-at : d .trial .value ≡ toDouble z
-  value-at = ap (λ (r : Trial). r .value) (at-of (next (zigzag (d .turn .generator))) (d .trial) (d .after) (d .gives) .1)
-
-  here : left q l fuel (child z (zigzag (d .after))) (ended-view (size q) x) ≡ walkOf q
-  here = ap (λ (y : Next). left q l fuel y (ended-view (size q) x)) (sym next-is) ∙ d .turn .loop .same
-
-  -- the budget is turn-exhausted
-  pub budget-spent : q .budget ≤ x .search .nodes → exhausted (x .search .nodes) (x .search .radius) ≡ walkOf q
-  budget-spent k = sym (turn-exhausted (leafOf q) (still (center (q .table) (q .target))) (q .table) (q .budget) (down q l) l (prefix q) (q .partial) c z (zigzag (d .after)) (keeps (size q) x) (x .search .radius) (x .search .nodes) fuel some k) ∙ here
-
-  sum-at : {a : Bool} → le (sum d) (x .search .radius) ≡ a → le (add binary64 (q .partial) (term (weight (q .table) l) c z)) (x .search .radius) ≡ a
-  sum-at e = ap (λ (v : Float). le (add binary64 (q .partial) v) (x .search .radius)) (sym term-at) ∙ e
+  pub budget-spent : q .budget ≤ d .turn .now .search .nodes → exhausted (d .turn .now .search .nodes) (d .turn .now .search .radius) ≡ walkOf q
+  budget-spent h = L.budget-spent (d .turn .loop .going) (d .gives) h ∙ whole-is (d .turn .at)
 
 -- ---- a turn whose child is counted and set in the point under trial
 -- `stored` is the child's coordinate as the code has it
@@ -255,20 +185,13 @@ module _ {q : Call} (e : Counted q) where
   rest-kept : places (size q) (q .depth) restBelow ≡ places (size q) (q .depth) (q .from .rest)
   rest-kept = at-depth restBelow (turn .now .rest) (places-kept (size q) (turn .now .rest) rest-long (turn .at .level) residual (low (turn .at))) ∙ turn .loop .preserved .rest-above
 
-  -- it is turn-pruned by
+  -- its sum is above the standing radius
   pub child-pruned : le (sum (e .tried)) (turn .now .search .radius) ≡ false → LoopReady q (turn .at .level) (state searchBelow restBelow (turn .now .distances) (turn .now .points)) (e .tried .after)
   child-pruned h = record {
-    fuel = turn .loop .fuel - 1;
-    enough = omega (arith, turn .loop .enough, e .below-budget);
-    same =
-        sym (turn-pruned (leafOf q) (still (center (q .table) (q .target))) (q .table) (q .budget) (down q (turn .at .level)) (turn .at .level) (prefix q) (q .partial) (centerAt q (turn .at .level)) (e .tried .trial .z) (zigzag (e .tried .after)) (keeps (size q) (turn .now)) (turn .now .search .radius) (turn .now .search .nodes) (e .below-budget) (turn .loop .fuel) (some (e .tried)) (sum-at (e .tried) h))
-        ∙ here (e .tried);
+    going = L.child-pruned (turn .loop .going) (e .tried .gives) (e .below-budget) h;
     not-exhausted = turn .loop .not-exhausted;
     point-length = length-set (turn .now .search .point) (turn .at .level) (e .stored) ∙ turn .loop .point-length;
-    step-bound = omega (arith, step-after (e .tried));
     listed = omega (arith, turn .loop .listed);
-    center-is = center-after (e .tried);
-    weight-is = weight-after (e .tried);
     preserved = record {
       point-above = point-kept;
       more = omega (arith, turn .loop .preserved .more);
@@ -295,7 +218,7 @@ module _ {q : Call} (e : Counted q) where
     listed = omega (arith, turn .loop .listed, turn .at .ready .listed);
     rest-length = length-set (turn .now .rest) (turn .at .level) residual ∙ turn .loop .preserved .rest-length;
     rest-above =
-        residuals-below (q .table) (q .target) (turn .now .rest) rest-long (q .depth) (turn .at .level) (turn .at .depth-is) (prefix q) (turn .loop .preserved .rest-above ∙ turn .at .ready .rest-above) (low (turn .at)) (e .stored) residual (ap (sub binary64 (coordinate (q .target) (turn .at .level))) (value-at (e .tried) ∙ ap toDouble (sym (e .stored-is))))
+        residuals-below (q .table) (q .target) (turn .now .rest) rest-long (q .depth) (turn .at .level) (turn .at .depth-is) (prefix q) (turn .loop .preserved .rest-above ∙ turn .at .ready .rest-above) (low (turn .at)) (e .stored) residual (ap (sub binary64 (coordinate (q .target) (turn .at .level))) (L.value-at (turn .loop .going) (e .tried .gives) ∙ ap toDouble (sym (e .stored-is))))
         ∙ ap (residuals (q .target) (turn .at .level)) (sym point-set);
     few = omega (arith, turn .at .ready .few, turn .loop .preserved .distances-length);
     points-length = turn .loop .preserved .points-length ∙ turn .at .ready .points-length ∙ ap (λ (k : ℕ). k * size q) (sym (turn .loop .preserved .distances-length));
@@ -319,26 +242,18 @@ module _ {q : Call} (m : Below q) where
   abbrev viewBelow : Walked Kept
   viewBelow = seen (size q) (searchBelow e) (turn e .now .distances) (turn e .now .points)
 
-  below : view (size q) w ≡ down q (turn e .at .level) (e .tried .trial .z ∷ prefix q) (add binary64 (q .partial) (term (weight (q .table) (turn e .at .level)) (centerAt q (turn e .at .level)) (e .tried .trial .z))) (ended (keeps (size q) (turn e .now)) (turn e .now .search .radius) (turn e .now .search .nodes + 1))
+  below : view (size q) w ≡ down q (turn e .at .level) (e .tried .trial .z ∷ prefix q) (sum (e .tried)) (ended (keeps (size q) (turn e .now)) (turn e .now .search .radius) (turn e .now .search .nodes + 1))
   below =
       m .returned .seen-as
       ∙ ap (λ (k : ℕ). walk (leaf (q .listing) k) (still (center (q .table) (q .target))) (q .table) (q .budget) (turn e .at .level) (places (size q) (turn e .at .level) (searchBelow e .point)) (sum (e .tried)) viewBelow) (turn e .loop .preserved .distances-length)
       ∙ ap (λ (zs : List ℤ). down q (turn e .at .level) zs (sum (e .tried)) viewBelow) (point-set e ∙ ap (λ (a : ℤ). a ∷ prefix q) (e .stored-is))
-      ∙ ap (λ (v : Float). down q (turn e .at .level) (e .tried .trial .z ∷ prefix q) (add binary64 (q .partial) v) viewBelow) (term-at (e .tried))
-      ∙ ap (down q (turn e .at .level) (e .tried .trial .z ∷ prefix q) (add binary64 (q .partial) (term (weight (q .table) (turn e .at .level)) (centerAt q (turn e .at .level)) (e .tried .trial .z)))) (view-ended (size q) (state (searchBelow e) (turn e .now .rest) (turn e .now .distances) (turn e .now .points)) (turn e .loop .not-exhausted))
-
-  children-left : rest (e .tried) (turn e .loop .fuel - 1) (view (size q) w) ≡ walkOf q
-  children-left =
-      ap (rest (e .tried) (turn e .loop .fuel - 1)) below
-      ∙ sym (turn-descends (leafOf q) (still (center (q .table) (q .target))) (q .table) (q .budget) (down q (turn e .at .level)) (turn e .at .level) (prefix q) (q .partial) (centerAt q (turn e .at .level)) (e .tried .trial .z) (zigzag (e .tried .after)) (keeps (size q) (turn e .now)) (turn e .now .search .radius) (turn e .now .search .nodes) (e .below-budget) (turn e .loop .fuel) (some (e .tried)) (sum-at (e .tried) (m .passes)))
-      ∙ here (e .tried)
+      ∙ ap (down q (turn e .at .level) (e .tried .trial .z ∷ prefix q) (sum (e .tried))) (view-ended (size q) (state (searchBelow e) (turn e .now .rest) (turn e .now .distances) (turn e .now .points)) (turn e .loop .not-exhausted))
 
   pub exhausted-below : w .search .exhausted ≡ true → view (size q) w ≡ walkOf q
   exhausted-below a =
       view-exhausted (size q) w a
-      ∙ sym (children-exhausted (leafOf q) (still (center (q .table) (q .target))) (q .table) (q .budget) (down q (turn e .at .level)) (turn e .at .level) (prefix q) (q .partial) (centerAt q (turn e .at .level)) (turn e .loop .fuel - 1) (next (zigzag (e .tried .after))) (w .search .nodes) (w .search .radius))
-      ∙ ap (rest (e .tried) (turn e .loop .fuel - 1)) (sym (view-exhausted (size q) w a))
-      ∙ children-left
+      ∙ L.exhausted-below (turn e .loop .going) (e .tried .gives) (e .below-budget) (m .passes) (view (size q) w) below (w .search .nodes) (w .search .radius) (view-exhausted (size q) w a)
+      ∙ whole-is (turn e .at)
 
   pub preserved-below : Preserved q w
   preserved-below = record {
@@ -354,15 +269,10 @@ module _ {q : Call} (m : Below q) where
 
   pub loop-continues : w .search .exhausted ≡ false → LoopReady q (turn e .at .level) w (e .tried .after)
   loop-continues a = record {
-    fuel = turn e .loop .fuel - 1;
-    enough = omega (arith, turn e .loop .enough, e .below-budget, m .returned .preserved .more);
-    same = ap (rest (e .tried) (turn e .loop .fuel - 1)) (sym (view-ended (size q) w a)) ∙ children-left;
+    going = L.goes-on (turn e .loop .going) (e .tried .gives) (e .below-budget) (m .passes) (view (size q) w) below (keeps (size q) w) (w .search .radius) (w .search .nodes) (view-ended (size q) w a) (omega (arith, m .returned .preserved .more));
     not-exhausted = a;
     point-length = m .point-length;
-    step-bound = omega (arith, step-after (e .tried), m .returned .preserved .more);
     listed = omega (arith, turn e .loop .listed, m .returned .preserved .listed);
-    center-is = center-after (e .tried);
-    weight-is = weight-after (e .tried);
     preserved = preserved-below;
   }
 

@@ -11,11 +11,7 @@ use Rattle.definitions.specs.Distance.{term}
 use Rattle.definitions.specs.Zigzag.{Next, child, none, Start, open-level, no-children, start, next}
 use Rattle.definitions.specs.Walk.{Walked, ended, exhausted, Leaf, Descent, Centers, descendIf, visit, tryChildren, tryLevel, enter, walk}
 use Rattle.definitions.proofs.Turns.{visit-exhausted, visit-counted, descends, prunes, children-unfueled, children-exhausted, children-none, children-child, level-closed, level-open, enter-exhausted, enter-ended, leaf-exhausted, leaf-ended, walk-leaf, walk-level}
-
--- what a walk has come to, with what it keeps seen through f
-abbrev pub mapped : {K L : Type 0} → (K → L) → Walked K → Walked L
-mapped f (ended k R m) = ended (f k) R m
-mapped f (exhausted m R) = exhausted m R
+pub use Rattle.search.specs.Kept.{mapped}
 
 -- centres that see what is kept through f, too
 pub record SameCenters {K L : Type 0} (f : K → L) (centersK : Centers K) (centersL : Centers L) : Type 0 where

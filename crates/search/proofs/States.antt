@@ -53,10 +53,6 @@ module _ (q : Call) where
   abbrev pub leafOf : Leaf Kept
   leafOf = leaf (q .listing) (length (q .from .distances))
 
-  -- the centre of the level below them
-  abbrev pub centerAt : ℕ → Float
-  centerAt l = center (q .table) (q .target) l (prefix q)
-
   -- the walk with l levels left
   abbrev pub down : ℕ → Descent Kept
   down l = walk leafOf (still (center (q .table) (q .target))) (q .table) (q .budget) l

@@ -66,9 +66,8 @@ pub record Considered (n : ℕ) (s : RecursiveSearch) (d : Float) (found : ℕ) 
 
 -- The best and the point under trial have n coordinates.
 pub record BeforeReady (n : ℕ) (point best : List ℤ) : Type 0 where
-  pub small : n ≤ largestDimension
-  pub point-length : length point ≡ largestDimension
-  pub best-length : length best ≡ largestDimension
+  pub point-fits : n ≤ length point
+  pub best-fits : n ≤ length best
 
 -- What the leaf of `list` asks for: a point of n coordinates, and n coordinates for each place.
 pub record PushReady (n : ℕ) (point : List ℤ) (found : ℕ) (distances : List Float) (points : List ℤ) : Type 0 where

@@ -41,11 +41,7 @@ impl RecursiveSearch {
 }
 
 // Whether the point under trial is lexicographically smaller than the best, coordinate 0 first.
-fn before<'a>(
-    point: &'a [i64; LARGEST_DIMENSION],
-    best: &'a [i64; LARGEST_DIMENSION],
-    n: usize,
-) -> bool
+pub fn before<'a>(point: &'a [i64], best: &'a [i64], n: usize) -> bool
     requires { ⌜ BeforeReady n (now point) (now best) ⌝ }
     ensures { λ r. ⌜ r ≡ lexicographic (take n (atEntry point)) (take n (atEntry best)) ⌝ }
 {
@@ -98,7 +94,7 @@ fn consider(s: RecursiveSearch, n: usize, distance: f64, found: &mut u64) -> Rec
 }
 
 // The leaf of list: a point is counted, and stored with its distance if there is a place left.
-fn push(
+pub fn push(
     point: &[i64],
     n: usize,
     distance: f64,

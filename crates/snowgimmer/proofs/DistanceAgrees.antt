@@ -23,7 +23,7 @@ use Rattle.theorems.specs.Accepted.{TargetAccepted}
 use Rattle.theorems.specs.Prepared.{PreparedPromises}
 use Rattle.theorems.proofs.Booleans.{to-true}
 use Rattle.theorems.proofs.FirstRefusal.{none-passes}
-use Rattle.theorems.proofs.Accepted.{distance-accepts}
+use Rattle.theorems.proofs.Accepted.{search-passes-at, distance-accepts}
 use Rattle.theorems.proofs.Promises.{distance-promises}
 use Rattle.distance.specs.declared.Distance.the-variants.{Finite, Overflow}
 use Rattle.distance.specs.View.{distanceOf}
@@ -39,11 +39,12 @@ finite-distance : (d x : Float) → T (finite d) → x ≡ d → distanceOf d �
 finite-distance d x f e = ap (λ (b : Bool). cond b (Finite d) (Overflow d)) (to-true (finite d) f) ∙ ap Finite (sym e)
 
 -- a search whose checks begin with those of every search
-pub distance-agrees : (rest : List Verdict) {k : ℕ} {t : Table} {target : List Float} {R : Float} {budget : ℕ} {out : List ℤ} {answer : Answer NearestPoint} {out′ : List ℤ} →
-    SearchPromises (searchChecks largestDimension t target out ++ rest) k t target R budget out answer out′ → DistanceAgrees t target answer out′
-distance-agrees rest {t = t} {target} {out = out} {out′ = out′} p small a q =
+pub distance-agrees : (largest : ℕ) (rest : List Verdict) {k : ℕ} {t : Table} {target : List Float} {R : Float} {budget : ℕ} {out : List ℤ} {answer : Answer NearestPoint} {out′ : List ℤ} →
+    SearchPromises (searchChecks largest t target out ++ rest) k t target R budget out answer out′ → DistanceAgrees t target answer out′
+distance-agrees largest rest {t = t} {target} {out = out} {out′ = out′} p small a q =
     let fits = p .demand-1 .answers .1 (inl (a, q)) in
-    let passed = append-passes (searchChecks largestDimension t target out) rest (none-passes (searchChecks largestDimension t target out ++ rest) fits) .0 in
+    let searched = append-passes (searchChecks largest t target out) rest (none-passes (searchChecks largest t target out ++ rest) fits) .0 in
+    let passed = search-passes-at largest largestDimension t target out small searched in
     let as-long : length out ≡ length out′ = search-passed largestDimension t target out passed .shape .output-length ∙ sym (vector-length t out′ (p .point small a q .vector)) in
     let own = p .own-distance small a q in
     distance-found t target out′ (sym (same-checks t target out out′ as-long) ∙ passed) (a .distance) (finite-distance (distance t target out′) (a .distance) (own .1) (own .0))

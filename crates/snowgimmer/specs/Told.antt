@@ -17,10 +17,11 @@ use Rattle.definitions.specs.Ratio.{ratioCall}
 use Rattle.definitions.specs.Reference.{changeReference, changeOutput}
 use Rattle.definitions.specs.Entries.{Entry, fed, givenVerdict}
 use Rattle.theorems.specs.Promises.{NearestPromises, SeededPromises, MlPromises, DistancePromises, ListPromises, RoundPromises, PlanePromises}
+use Rattle.theorems.specs.Running.{NearestRunning, ListRunning}
 use Rattle.theorems.specs.Prepared.{PreparedPromises}
 use Rattle.theorems.specs.Doubles.{ofDoubles}
 use Rattle.theorems.specs.Settings.{RightP, RightQ}
-use Rattle.theorems.specs.Ratios.{Holds, Fails, Open, None, RatioCallPromises}
+use Rattle.theorems.specs.Ratios.{Holds, Fails, Open, None, MeaningPromised, RatioCallPromises}
 use Rattle.theorems.specs.Reference.{ReferencePromises}
 use Rattle.theorems.specs.Entries.{EntryPromises}
 use Rattle.listing.specs.View.{countsOf}
@@ -53,7 +54,7 @@ PointTold answer r = AnswerTold answer (λ a. told 0 (a .nodes) 0 (a .distance))
 
 -- ---- the calls
 
--- the call `distance` gives, of the point written, the distance that a nearest search told
+-- up to dimension 23 the call `distance` gives, of the point written, the distance that a nearest search told
 abbrev pub DistanceAgrees : Table → List Float → C.Answer C.NearestPoint → List ℤ → Type 0
 DistanceAgrees t target answer out′ = dimension t ≤ 23 → (a : C.NearestPoint) → answer ≡ C.found a → C.pointDistance t target out′ ≡ C.found (a .distance)
 
@@ -63,6 +64,7 @@ pub record NearestTold (t : Table) (target : List Float) (out : List ℤ) (radiu
   pub writes : out′ ≡ C.nearestOutput (C.nearest t target out radius budget) out
   pub promises : NearestPromises t target out radius budget (C.nearest t target out radius budget) out′
   pub distance-agrees : DistanceAgrees t target (C.nearest t target out radius budget) out′
+  pub running : NearestRunning t target out radius budget (C.nearest t target out radius budget) out′
 
 pub record SeededTold (t : Table) (target : List Float) (out candidate : List ℤ) (radius : Float) (budget : ℕ) (r : Report) (out′ : List ℤ) : Type 0 where
   pub tells : r ≡ ofNearest (C.nearestSeeded t target out candidate radius budget)
@@ -90,6 +92,7 @@ pub record ListTold (t : Table) (target distances : List Float) (points : List �
   pub writes-distances : distances′ ≡ C.listDistances (C.list t target distances points radius budget) distances
   pub writes-points : points′ ≡ C.listPoints (C.list t target distances points radius budget) points
   pub promises : ListPromises t target distances points radius budget (C.list t target distances points radius budget) distances′ points′
+  pub running : ListRunning t target distances points radius budget (C.list t target distances points radius budget) distances′ points′
 
 pub record RoundTold (coefficients : List Float) (out : List ℤ) (r : Report) (out′ : List ℤ) : Type 0 where
   pub tells : r ≡ ofVerdict (C.round coefficients out)
@@ -129,10 +132,10 @@ pub record RatioNumbers (p q : ℕ) (t : Table) (target : List Float) (radius : 
 pub record RatioTold (distances : List Float) (radius : Float) (p q : ℕ) (r : Report) : Type 0 where
   pub tells : r ≡ ofRatio (ratioCall p q distances radius)
   pub promises : RatioCallPromises p q distances radius (ratioCall p q distances radius)
-  -- handed the distances that a list at the radius left, as many as it has points
+  -- handed the distances that a list of dimension up to 23 at the radius left, as many as it has points, or none of a list that was refused
   pub numbers : RightP p q → RightQ q → (t : Table) (target lent : List Float) (points : List ℤ) (budget : ℕ) → T (ofDoubles t target) →
       let l = C.list t target lent points radius budget in
-      distances ≡ take (C.pointsIn l) (C.listDistances l lent) → RatioNumbers p q t target radius l r
+      MeaningPromised t l → distances ≡ take (C.pointsIn l) (C.listDistances l lent) → RatioNumbers p q t target radius l r
   -- 21 and its index
   pub gives-0 : (r ≡ told 21 0 0 plusZero) ↔ (RightP p q → ⊥)
   pub gives-1 : (r ≡ told 21 1 0 plusZero) ↔ (RightP p q × (RightQ q → ⊥))

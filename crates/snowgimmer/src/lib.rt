@@ -40,7 +40,8 @@ pub extern "C" fn snowgimmer_round_away(x: f64) -> i64
     round_away(x)
 }
 
-// The nearest integer vector inside the radius goes to out; first is the number of nodes, real the vector's distance.
+// The nearest integer vector inside the radius goes to out; first is the number of nodes, real the vector's distance. From
+// n = 24 on it is the vector that the walk with running centres ends with.
 //
 // Refused: 2 to 9, 15 and 16.
 #[no_mangle]
@@ -131,7 +132,8 @@ pub extern "C" fn snowgimmer_prepared_nearest_ml(
 }
 
 // Every integer vector that is admitted at the radius, in the order of `list`: first is the number of nodes, second
-// that of points. What lies behind the last point stays as it was. It needs about 0.95 MB of stack.
+// that of points. What lies behind the last point stays as it was. From n = 24 on they are the vectors
+// that the walk with running centres finds. It needs at most 1 MB of stack.
 //
 // Refused: 2 to 9, 14, 15 and 18.
 #[no_mangle]

@@ -3,7 +3,7 @@ use mathlib.Core.Path.{_≡_, refl, sym, ap, _∙_, subst}
 use mathlib.Core.Bool.{Bool, true, false, not, _&&_, _||_}
 use mathlib.Core.List.{List, List·Memᴰ·cases-cons, List·Memᴰ·not-nil}
 use mathlib.Core.Logic.{_↔_, ⊎-elim}
-use Prim.Native.Nat.{ℕ, _+_, _*_, _<_}
+use Prim.Native.Nat.{ℕ, _+_, _*_, _<_, _≤_}
 use native.Mathlib.Omega.{arith}
 use borrow.Author.Tests.{ltb-false, le-ltb, eq-eqb, eqb-true, not-false}
 use lib.Dec.{T, ltb, eqb}
@@ -14,11 +14,11 @@ use lib.Ieee.Scale.{finite}
 use Rattle.rounding.specs.Doubles.{magnitude}
 use Rattle.lists.specs.All.{All, none, more}
 use Rattle.lists.proofs.Each.{all-append}
-use Rattle.definitions.specs.Table.{Table, dimension, weight, coordinate, plusZero, coordLimit, largestDimension, largestList}
+use Rattle.definitions.specs.Table.{Table, dimension, weight, coordinate, plusZero, coordLimit, largestDimension, largestSearched, largestList}
 use Rattle.definitions.specs.Distance.{distance}
 use Rattle.definitions.specs.Seeds.{widened}
 use Rattle.definitions.specs.Refusals.{Refusal, tableSize, muNonFinite, muRange, weightRange, lengthMismatch, nonFinite, candidateLength, candidateDistance, candidateOutside, widenedRadius, listSize}
-use Rattle.definitions.specs.Checks.{Verdict, pass, refuseIf, refuseAtFirst, readIndices, notFinite, beyondLimit, weightFault, targetFault, tableSizeCheck, muNonFiniteCheck, muRangeCheck, weightRangeCheck, tableChecks, lengthCheck, targetCheck, finiteCheck, radiusCheck, handedOn, budgetCheck, candidateLengthCheck, candidateDistanceCheck, candidateOutsideCheck, widenedRadiusCheck}
+use Rattle.definitions.specs.Checks.{Verdict, pass, firstRefusal, refuseIf, refuseAtFirst, readIndices, notFinite, beyondLimit, weightFault, targetFault, tableSizeCheck, muNonFiniteCheck, muRangeCheck, weightRangeCheck, tableChecks, lengthCheck, targetCheck, finiteCheck, radiusCheck, handedOn, budgetCheck, candidateLengthCheck, candidateDistanceCheck, candidateOutsideCheck, widenedRadiusCheck}
 use Rattle.definitions.specs.Calls.{searchChecks, mlRadius, checksOfRound}
 use Rattle.definitions.proofs.Verdicts.{refuse≢pass, clean-passes, no-fault, passed}
 use Rattle.definitions.proofs.Tables.{CheckedTable, table-passed, neither, both-false, target-passed}
@@ -172,14 +172,29 @@ module _ (largest : ℕ) (t : Table) (target : List Float) (out : List ℤ) wher
       more (size-passes largest t table) (more (finite-entries largest t table) (more (bounded-entries largest t table) (more (weights-pass largest t table)
       (more (target-length-passes largest t target (a .table-target)) (more (length-passes (dimension t) (length out) (a .output-length)) (more (target-passes largest t target (a .table-target)) none))))))
 
+-- a search whose checks pass with n up to one number passes them with n up to another that n is within
+pub search-passes-at : (largest other : ℕ) (t : Table) (target : List Float) (out : List ℤ) → dimension t ≤ other → firstRefusal (searchChecks largest t target out) ≡ pass → firstRefusal (searchChecks other t target out) ≡ pass
+unfolding searchChecks tableChecks
+search-passes-at largest other t target out few q = go (all-passed (searchChecks largest t target out) q)
+  where
+    go : Passing (searchChecks largest t target out) → firstRefusal (searchChecks other t target out) ≡ pass
+    go (more p2 (more p3 (more p4 (more p5 (more a (more b (more p7 none))))))) =
+        let c = search-accepted largest t target out p2 p3 p4 p5 a b p7 in
+        let table = c .table-target .table in
+        none-passes (searchChecks other t target out)
+        (none-fits (search-passing other t target out (record {
+          table-target = record { table = record { few = few; square = table .square; entries = table .entries; weights = table .weights }; target-length = c .table-target .target-length; targets = c .table-target .targets };
+          output-length = c .output-length;
+        })))
+
 module _ (t : Table) (target : List Float) (out : List ℤ) (R : Float) (budget : ℕ) where
   pub nearest-accepts : NoneFits (nearestCallChecks t target out R budget) ↔ NearestAccepted t target out R budget
   unfolding searchChecks tableChecks
-  nearest-accepts = (λ f. go (passing (nearestCallChecks t target out R budget) f), λ a. none-fits (all-append (search-passing largestDimension t target out (a .search)) (more (radius-pass R budget (a .within)) (more (budget-passes budget (a .within .budget-most)) none))))
+  nearest-accepts = (λ f. go (passing (nearestCallChecks t target out R budget) f), λ a. none-fits (all-append (search-passing largestSearched t target out (a .search)) (more (radius-pass R budget (a .within)) (more (budget-passes budget (a .within .budget-most)) none))))
     where
       go : Passing (nearestCallChecks t target out R budget) → NearestAccepted t target out R budget
       go (more p2 (more p3 (more p4 (more p5 (more a (more b (more p7 (more p8 (more p9 none))))))))) =
-          record { search = search-accepted largestDimension t target out p2 p3 p4 p5 a b p7; within = radius-accepted R budget p8 p9 }
+          record { search = search-accepted largestSearched t target out p2 p3 p4 p5 a b p7; within = radius-accepted R budget p8 p9 }
 
   pub seeded-accepts : (candidate : List ℤ) → NoneFits (seededCallChecks t target out candidate R budget) ↔ SeededAccepted t target out candidate R budget
   unfolding searchChecks tableChecks
@@ -257,7 +272,7 @@ module _ (t : Table) (target distances : List Float) (points : List ℤ) (R : Fl
       go (more p2 (more p3 (more p4 (more p5 (more p6 (more p7 (more p8 (more p9 (more p14 none))))))))) =
           let sizes = neither (ltb largestList (length distances)) (not matches) (listSize (length distances)) p14 in
           record {
-            table-target = target-accepted largestDimension t target (table-passed largestDimension t p2 p3 p4 p5) p6 p7;
+            table-target = target-accepted largestSearched t target (table-passed largestSearched t p2 p3 p4 p5) p6 p7;
             within = radius-accepted R budget p8 p9;
             places-most = ltb-false largestList (length distances) (sizes .0);
             points-length = eqb-true (length points) (dimension t * length distances) (not-false matches (sizes .1));
@@ -268,8 +283,8 @@ module _ (t : Table) (target distances : List Float) (points : List ℤ) (R : Fl
           let table = a .table-target .table in
           let size = not-refused (listSize (length distances)) (neither-is (le-ltb largestList (length distances) (a .places-most)) (ap not (eq-eqb _ _ (a .points-length)))) in
           none-fits
-          (more (size-passes largestDimension t table) (more (finite-entries largestDimension t table) (more (bounded-entries largestDimension t table) (more (weights-pass largestDimension t table)
-          (more (target-length-passes largestDimension t target (a .table-target)) (more (target-passes largestDimension t target (a .table-target))
+          (more (size-passes largestSearched t table) (more (finite-entries largestSearched t table) (more (bounded-entries largestSearched t table) (more (weights-pass largestSearched t table)
+          (more (target-length-passes largestSearched t target (a .table-target)) (more (target-passes largestSearched t target (a .table-target))
           (more (radius-pass R budget (a .within)) (more (budget-passes budget (a .within .budget-most)) (more size none)))))))))
 
 pub round-accepts : (coefficients : List Float) (out : List ℤ) → NoneFits (checksOfRound coefficients out) ↔ RoundAccepted coefficients out

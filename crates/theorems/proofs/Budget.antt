@@ -36,7 +36,7 @@ module _ {K : Type 0} (f : Progress K) where
   agrees-enough b w (inl a) h = a .1
   agrees-enough b w (inr a) h = absurd (not-le-of-lt (a .0) h)
 
-  alike : (b b′ : ℕ) (w w′ : Walked K) → b ≤ b′ → Agrees b f w → Agrees b′ f w′ → (k : K) (S : Float) (m : ℕ) → w ≡ ended k S m → w′ ≡ ended k S m
+  pub alike : (b b′ : ℕ) (w w′ : Walked K) → b ≤ b′ → Agrees b f w → Agrees b′ f w′ → (k : K) (S : Float) (m : ℕ) → w ≡ ended k S m → w′ ≡ ended k S m
   alike b b′ w w′ h a a′ k S m e =
       let g = agrees-ended b w a k S m e in
       agrees-enough b′ w′ a′ (le-trans (g .0) h) ∙ same (g .1) (g .2) (g .3)

@@ -7,7 +7,7 @@ use lib.Dec.{ltb, eqb}
 use lib.ListN.{length}
 use lib.IntN.{ℤ}
 use lib.Ieee.{Float}
-use Rattle.definitions.specs.Table.{Table, dimension, largestDimension, largestList}
+use Rattle.definitions.specs.Table.{Table, dimension, largestDimension, largestSearched, largestList}
 use Rattle.definitions.specs.Distance.{distance}
 use Rattle.definitions.specs.Seeds.{widened}
 use Rattle.definitions.specs.Refusals.{lengthMismatch, candidateLength, listSize}
@@ -22,7 +22,7 @@ use Rattle.theorems.proofs.CheckNumbers.{by-test, by-index, length-numb
 -- ---- nearest
 module _ (t : Table) (target : List Float) (out : List ℤ) (R : Float) (budget : ℕ) where
   pub nearest-numbered : Numbered (2 ∷ 3 ∷ 4 ∷ 5 ∷ 6 ∷ 6 ∷ 7 ∷ 8 ∷ 9 ∷ []) (nearestCallChecks t target out R budget)
-  nearest-numbered = search-then largestDimension t target out (check (radius-number R) (check (budget-number budget) no-checks))
+  nearest-numbered = search-then largestSearched t target out (check (radius-number R) (check (budget-number budget) no-checks))
 
   pub nearest-indices : FirstIndices (nearestCallChecks t target out R budget) t targetFault target
   unfolding searchChecks
@@ -67,7 +67,7 @@ module _ (t : Table) (target distances : List Float) (points : List ℤ) (R : Fl
   list-numbered =
       let n = dimension t in
       let last = by-test (ltb largestList (length distances) || not (eqb (length points) (n * length distances))) (listSize (length distances)) in
-      table-then largestDimension t (check (length-number n (length target)) (check (by-index (target-first target)) (check (radius-number R) (check (budget-number budget) (check last no-checks)))))
+      table-then largestSearched t (check (length-number n (length target)) (check (by-index (target-first target)) (check (radius-number R) (check (budget-number budget) (check last no-checks)))))
 
   pub list-indices : FirstIndices (listCallChecks t target distances points R budget) t targetFault target
   unfolding tableChecks

@@ -6,13 +6,13 @@ use mathlib.Core.Logic.{_⊎_, inl, inr}
 use Prim.Native.Nat.{ℕ, _≤_}
 use native.Mathlib.Nat.{le-trans, le-of-eq}
 use borrow.Author.Tests.{not-true}
-use lib.Dec.{T}
+use lib.Dec.{T, lit≤}
 use lib.ListN.{length}
 use lib.IntN.{ℤ}
 use lib.Ieee.{Float, binary64, lt}
 use lib.Ieee.Scale.{finite}
 use Rattle.rounding.specs.Kinds.{Finite}
-use Rattle.definitions.specs.Table.{Table, dimension, plusZero, largestDimension, largestBudget}
+use Rattle.definitions.specs.Table.{Table, dimension, plusZero, largestDimension, largestSearched, largestBudget}
 use Rattle.definitions.specs.Distance.{center, distance}
 use Rattle.definitions.specs.Admitted.{isVector}
 use Rattle.definitions.specs.Walk.{Walked, ended, exhausted, still, walk as walkDown}
@@ -20,10 +20,10 @@ use Rattle.definitions.specs.Nearest.{Best, no-best, best, consider, nearestWal
 use Rattle.definitions.specs.Seeds.{widened}
 use Rattle.definitions.specs.Refusals.{budgetExhausted}
 use Rattle.definitions.specs.Checks.{Verdict, pass, firstRefusal, notFinite, radiusCheck, budgetCheck}
-use Rattle.definitions.specs.Calls.{Answer, refused, NearestPoint, nearestWithin, searchChecks, nearestChecks, nearest, nearestOutput}
+use Rattle.definitions.specs.Calls.{Answer, refused, NearestPoint, endOfNearest, nearestWithin, searchChecks, nearestChecks, nearest, nearestOutput}
 use Rattle.definitions.proofs.Verdicts.{first-alone, passes-append}
-use Rattle.definitions.proofs.Passed.{radius-passes, budget-passes}
-use Rattle.definitions.proofs.Answers.{after-pass, nearest-checked}
+use Rattle.definitions.proofs.Passed.{search-passed, radius-passes, budget-passes}
+use Rattle.definitions.proofs.Answers.{after-pass, search-small, nearest-checked}
 use Rattle.definitions.proofs.HandedOn.{plus-handed-on}
 use Rattle.theorems.specs.Prefixes.{openedPrefixes}
 use Rattle.theorems.specs.Refusals.{NoneFits}
@@ -31,12 +31,13 @@ use Rattle.theorems.specs.Answers.{EndsAsWalk, Demand1}
 use Rattle.theorems.specs.Promises.{PointWritten, FromCandidate}
 use Rattle.theorems.proofs.Booleans.{to-true}
 use Rattle.theorems.proofs.Checked.{held}
+use Rattle.theorems.proofs.Accepted.{search-passes-at}
 use Rattle.theorems.proofs.Budget.{nearest-exhausted}
 use Rattle.theorems.proofs.Least.{nearest-enough}
 use Rattle.theorems.proofs.Seeded.{widened-double, widened-nonneg, candidate-below, seeded-finds}
 use Rattle.theorems.proofs.FirstRefusal.{none-passes}
 use Rattle.theorems.proofs.EndsAsWalk.{ends-as-walk}
-use Rattle.theorems.proofs.SearchCalls.{Ready, ready-from, only-number-of-prefixes, SearchCall, by-walk, demand-15}
+use Rattle.theorems.proofs.SearchCalls.{Ready, ready-from, only-number-of-prefixes, SearchCall, small-walk, by-walk, demand-15}
 
 -- ---- the radius before and after the widening
 pub record Widening (t : Table) (target : List Float) (R : Float) : Type 0 where
@@ -51,10 +52,10 @@ ready-widened {t} {target} {R} w = let r = w .before in ready-from (r .limits) (
 
 -- ---- the plain search
 -- where a search's checks, the radius's and the budget's pass, those of `nearest` do
-nearest-passes : (t : Table) (target : List Float) (out : List ℤ) (R : Float) (budget : ℕ) → firstRefusal (searchChecks largestDimension t target out) ≡ pass → radiusCheck R ≡ pass → budget ≤ largestBudget → nearestChecks largestDimension t target out R budget ≡ pass
+nearest-passes : (t : Table) (target : List Float) (out : List ℤ) (R : Float) (budget : ℕ) → firstRefusal (searchChecks largestDimension t target out) ≡ pass → radiusCheck R ≡ pass → budget ≤ largestBudget → nearestChecks largestSearched t target out R budget ≡ pass
 unfolding nearestChecks
 nearest-passes t target out R budget searched radius few =
-    passes-append (searchChecks largestDimension t target out) (radiusCheck R ∷ budgetCheck budget ∷ []) searched
+    passes-append (searchChecks largestSearched t target out) (radiusCheck R ∷ budgetCheck budget ∷ []) (search-passes-at largestDimension largestSearched t target out (le-trans (search-passed largestDimension t target out searched .checked .small) (lit≤ tt)) searched)
     (passes-append (radiusCheck R ∷ []) (budgetCheck budget ∷ []) (first-alone (radiusCheck R) ∙ radius) (first-alone (budgetCheck budget) ∙ budget-passes budget few))
 
 -- at n = 0 the start of its walk is a leaf
@@ -79,6 +80,9 @@ module _ {checks : List Verdict} {t : Table} {target : List Float} {R : Float} {
   abbrev walk : Walked Best
   walk = nearestWalk t target wide budget
 
+  small : NoneFits checks → dimension t ≤ 23
+  small f = search-passed largestDimension t target out (candidate f .searched) .checked .small
+
   finds : NoneFits checks → (S : Float) (m : ℕ) → walk ≡ ended no-best S m → ⊥
   finds f =
       let c = candidate f in
@@ -86,7 +90,7 @@ module _ {checks : List Verdict} {t : Table} {target : List Float} {R : Float} {
       seeded-finds t target (r .limits) R (r .finite) (r .nonneg) (c .start .after) z (c .vector) (c .within) budget
 
   pub candidate-demand : Demand1 checks 15 15 answer (nearestOutput answer out ≡ out)
-  candidate-demand = demand-15 call finds out
+  candidate-demand = demand-15 call (λ f S m w. finds f S m (small-walk call (small f) w)) out
 
   module _ (f : NoneFits checks) where
     abbrev c : Candidate t target out z R budget
@@ -96,7 +100,7 @@ module _ {checks : List Verdict} {t : Table} {target : List Float} {R : Float} {
     ready = ready-widened (c .start)
 
     ends : EndsAsWalk wide walk out answer (nearestOutput answer out)
-    ends = ends-as-walk wide walk out answer (by-walk call f)
+    ends = ends-as-walk wide walk out answer (by-walk call f ∙ ap (endOfNearest wide) (search-small t target wide budget (small f)))
 
     written : (zs : List ℤ) (S : Float) (m : ℕ) → walk ≡ ended (best zs) S m → PointWritten answer (nearestOutput answer out)
     written zs S m w = let e = ends .point zs S m w in (record { nodes = m; distance = S; point = zs }, e .0, e .1)

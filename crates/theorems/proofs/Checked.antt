@@ -52,6 +52,7 @@ limits-of-checks largest t target few d checked same q =
     let x = and-r (allDoubles (t .mu)) (allDoubles target) r in
     record {
       small = le-trans (checked .small) few;
+      target-length = sym same;
       weights = λ k h. weight-passed _ (double-at (t .weights) w k) (checked .weighted k h);
       targets = λ k h. let p = both-false (notFinite (coordinate target k)) (beyondLimit (coordinate target k)) (target-passed target q k (omega arith)) in within-limit _ (double-at target x k) (p .0) (p .1);
       entries = λ j i h l. within-limit _ (double-at (t .mu) m _) (checked .finite-entry j i h l) (checked .within-limit j i h l);

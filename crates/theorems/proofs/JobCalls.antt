@@ -17,15 +17,15 @@ use Rattle.theorems.specs.JobCalls.{jobOut, jobDistances, jobPoints, Job
 use Rattle.theorems.proofs.FirstRefusal.{none-passes}
 use Rattle.theorems.proofs.Promises.{nearest-promises, list-promises}
 use Rattle.theorems.proofs.Ratios.{list-ratio}
-use Rattle.theorems.proofs.JobDoubles.{job-doubles}
+use Rattle.theorems.proofs.JobDoubles.{job-doubles, job-small}
 
 pub job-promises : (input : List ℕ) (j : Job) → jobOf input ≡ job j → JobPromises j
 job-promises input j read =
     record {
       nearest = promises;
       list = list-promises (j .table) (j .target) (jobDistances j) (jobPoints j) (j .radius) (j .budget) (doubles .0) (doubles .1);
-      ratio = λ range. list-ratio (j .settings .p) (j .settings .q) range (j .table) (j .target) (jobDistances j) (jobPoints j) (j .radius) (j .budget) (doubles .0) (doubles .1);
-      same-distance = λ a l q e. promises .list-first (small a q) a q (jobDistances j) (jobPoints j) (j .budget) l e;
+      ratio = λ range. list-ratio (j .settings .p) (j .settings .q) range (j .table) (j .target) (jobDistances j) (jobPoints j) (j .radius) (j .budget) (doubles .0) (doubles .1) (inl (job-small input j read));
+      same-distance = λ a l q e. promises .list-first (job-small input j read) a q (jobDistances j) (jobPoints j) (j .budget) l e;
     }
   where
     doubles : T (ofDoubles (j .table) (j .target)) × T (fits binary64 (j .radius))
@@ -33,8 +33,3 @@ job-promises input j read =
 
     promises : NearestPromises (j .table) (j .target) (jobOut j) (j .radius) (j .budget) (jobNearest j) (nearestOutput (jobNearest j) (jobOut j))
     promises = nearest-promises (j .table) (j .target) (jobOut j) (j .radius) (j .budget) (doubles .0) (doubles .1)
-
-    small : (a : NearestPoint) → jobNearest j ≡ found a → dimension (j .table) ≤ 23
-    small a q =
-        let f = promises .search .demand-1 .answers .1 (inl (a, q)) in
-        nearest-passed largestDimension (j .table) (j .target) (jobOut j) (j .radius) (j .budget) (nearest-checks-are (j .table) (j .target) (jobOut j) (j .radius) (j .budget) ∙ none-passes _ f) .search .shape .shape .small

@@ -4,6 +4,9 @@ pub mod Booleans
 pub mod Limits
 pub mod Checked
 pub mod Sums
+-- ---- the running centres
+pub mod RunningCenters
+pub mod RunningWords
 -- ---- the children of a level
 pub mod Counts
 pub mod Zigzags
@@ -24,6 +27,8 @@ pub mod Search
 pub mod Least
 pub mod Radius
 pub mod Standing
+pub mod RunningWalks
+pub mod RunningNearest
 pub mod Seeded
 -- ---- list
 pub mod Listing
@@ -31,6 +36,7 @@ pub mod Orders
 pub mod Sorting
 pub mod Others
 pub mod FirstListed
+pub mod RunningLists
 -- ---- the checks
 pub mod FirstFaults
 pub mod FirstRefusal
@@ -49,6 +55,7 @@ pub mod SearchCalls
 pub mod CandidateCalls
 pub mod ListCall
 pub mod Promises
+pub mod RunningCalls
 pub mod Prepared
 pub mod Ratios
 pub mod Settings
@@ -57,6 +64,7 @@ pub mod References
 -- ---- entries that are not read
 pub mod SameDistances
 pub mod SameWalks
+pub mod SameRunning
 pub mod SamePlanes
 pub mod SameChecks
 pub mod SameCalls

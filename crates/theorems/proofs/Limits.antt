@@ -19,6 +19,7 @@ use Rattle.definitions.proofs.Admissions.{allI64-head, allI64-tail}
 
 pub record Limits (t : Table) (target : List Float) : Type 0 where
   pub small : dimension t ≤ 64
+  pub target-length : length target ≡ dimension t
   pub weights : (k : ℕ) → k < dimension t → Weight binary64 (weight t k)
   pub targets : (k : ℕ) → k < dimension t → Within binary64 52 (coordinate target k)
   pub entries : (j i : ℕ) → i < j → j < dimension t → Within binary64 52 (entry (dimension t) (t .mu) j i)

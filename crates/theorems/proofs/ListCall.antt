@@ -9,14 +9,16 @@ use mathlib.Core.Bool.{Bool, true, false}
 use mathlib.Core.List.{List, [], _∷_}
 use lib.Dec.{ltb}
 use lib.ListN.{length}
-use lib.Ieee.{Float}
+use lib.Ieee.{Float, binary64}
+use Rattle.rounding.specs.Kinds.{NonNegative}
 use Rattle.definitions.specs.Table.{Table}
 use Rattle.definitions.specs.Admitted.{admitted}
 use Rattle.definitions.specs.Walk.{Walked, ended, exhausted}
 use Rattle.definitions.specs.Listing.{ListPoint, listWalk}
+use Rattle.definitions.specs.Running.{listSearch}
 use Rattle.definitions.specs.Refusals.{Refusal, whole, real, budgetExhausted, listFull}
 use Rattle.definitions.specs.Calls.{Answer, found, refused, ListAnswer, endOfList}
-use Rattle.definitions.proofs.Answers.{found≢refused, refused-same, list-exhausted, list-full, list-sorted, list-walked}
+use Rattle.definitions.proofs.Answers.{found≢refused, refused-same, by-dimension, list-search-small, list-search-large, list-exhausted, list-full, list-sorted, list-walked}
 use Rattle.theorems.specs.Ordered.{vectorsOf, StrictlyOrdered}
 use Rattle.theorems.specs.Prefixes.{openedPrefixes, admittedVectors}
 use Rattle.theorems.specs.Answers.{Listed, NoMinusZero}
@@ -27,6 +29,7 @@ use Rattle.theorems.proofs.Unbudgeted.{Agrees}
 use Rattle.theorems.proofs.Listing.{addAll, stands, list-exact, list-agrees-prefixes}
 use Rattle.theorems.proofs.Sorting as S
 use Rattle.theorems.proofs.Standing.{list-radius}
+use Rattle.theorems.proofs.RunningLists.{running-list-radius}
 use Rattle.theorems.proofs.MinusZero.{a-whole, one-whole, one-double}
 use Rattle.theorems.proofs.SearchCalls.{Ready, number-of-prefixes, plus-sign}
 
@@ -44,6 +47,23 @@ full-same {j} {k} p = let v : (whole j ∷ []) ≡ (whole k ∷ []) = ap (λ (r 
 not-both : {j k : ℕ} {R : Float} → budgetExhausted j R ≡ listFull k → ⊥
 not-both {j} {k} {R} p = let n : _≡_ {A = ℕ} 15 18 = ap (λ (r : Refusal). r .number) p in omega (arith, n)
 
+-- ---- any call that is the end of a list walk whose radius stays
+-- 15 carries R and 18 no double, so neither carries minus zero
+pub list-no-minus-zero : {R : Float} → NonNegative binary64 R → (places : ℕ) (w : Walked (List ListPoint)) → ((m : ℕ) (S : Float) → w ≡ exhausted m S → S ≡ R) → (e : Refusal) → endOfList places w ≡ refused e → NoMinusZero e
+list-no-minus-zero nonneg places (exhausted m S) radius e q = subst NoMinusZero (refused-same (sym (list-exhausted places m S) ∙ q)) (a-whole (one-double (plus-sign nonneg (radius m S refl))))
+list-no-minus-zero nonneg places (ended ps S m) radius e q = go (ltb places (length ps)) refl
+  where
+    go : (b : Bool) → ltb places (length ps) ≡ b → NoMinusZero e
+    go true full = subst NoMinusZero (refused-same (sym (list-full places ps S m full) ∙ q)) one-whole
+    go false room = absurd (found≢refused (sym (list-sorted places ps S m room) ∙ q))
+
+-- the radius of a list stays, whatever n
+pub list-search-radius : {t : Table} {target : List Float} {R : Float} → Ready t target R → (budget m : ℕ) (S : Float) → listSearch t target R budget ≡ exhausted m S → S ≡ R
+list-search-radius {t} {target} {R} r budget m S e = elim (by-dimension t) [
+  | inl small ↦ list-radius t target R budget m S (sym (list-search-small t target R budget small) ∙ e)
+  | inr large ↦ running-list-radius t target (r .limits) R (r .finite) (r .nonneg) budget m S (sym (list-search-large t target R budget large) ∙ e)
+]
+
 -- ---- any call that is the end of the list walk
 module _ {t : Table} {target : List Float} {R : Float} (ready : Ready t target R) (budget places : ℕ) {answer : Answer ListAnswer} (is : answer ≡ endOfList places (listWalk t target R budget)) where
   -- a list has every admitted vector once, nothing else, in the list's order; its nodes are as many as the opened prefixes
@@ -52,18 +72,6 @@ module _ {t : Table} {target : List Float} {R : Float} (ready : Ready t target R
       let w = list-walked places (listWalk t target R budget) a (sym is ∙ q) in
       subst (λ (ps : List ListPoint). Listed t target R ps (a .nodes) × StrictlyOrdered ps) (sym (w .3))
       (S.list-sorted t target (ready .limits) R (ready .finite) (ready .plus) budget (w .0) (w .1) (a .nodes) (w .2))
-
-  -- 15 carries R and 18 no double, so neither carries minus zero
-  pub list-no-minus-zero : (e : Refusal) → answer ≡ refused e → NoMinusZero e
-  list-no-minus-zero e q = go (listWalk t target R budget) refl (sym is ∙ q)
-    where
-      go : (w : Walked (List ListPoint)) → listWalk t target R budget ≡ w → endOfList places w ≡ refused e → NoMinusZero e
-      go (exhausted m S) w q = subst NoMinusZero (refused-same (sym (list-exhausted places m S) ∙ q)) (a-whole (one-double (plus-sign (ready .nonneg) (list-radius t target R budget m S w))))
-      go (ended ps S m) w q = end (ltb places (length ps)) refl
-        where
-          end : (b : Bool) → ltb places (length ps) ≡ b → NoMinusZero e
-          end true full = subst NoMinusZero (refused-same (sym (list-full places ps S m full) ∙ q)) one-whole
-          end false room = absurd (found≢refused (sym (list-sorted places ps S m room) ∙ q))
 
   abbrev prefixes : ℕ
   prefixes = length (openedPrefixes t target R)

@@ -10,7 +10,7 @@ use lib.ListN.{length}
 use lib.IntN.{ℤ}
 use lib.Ieee.{Float, lt}
 use Rattle.lists.specs.All.{All, none, more}
-use Rattle.definitions.specs.Table.{Table, dimension, plusZero, minusZero, largestDimension, largestBudget, largestList}
+use Rattle.definitions.specs.Table.{Table, dimension, plusZero, minusZero, largestDimension, largestSearched, largestBudget, largestList}
 use Rattle.definitions.specs.Distance.{distance}
 use Rattle.definitions.specs.Seeds.{widened}
 use Rattle.definitions.specs.Refusals.{Value, whole, real, Refusal, tableSize, lengthMismatch, invalidRadius, budgetRange, candidateLength, candidateDistance, candidateOutside, widenedRadius, listSize}
@@ -101,7 +101,7 @@ search-clear largest t target out rest =
 -- ---- the calls' checks
 module _ (t : Table) (target : List Float) where
   pub nearest-clear : (out : List ℤ) (R : Float) (budget : ℕ) → All Clear (nearestCallChecks t target out R budget)
-  nearest-clear out R budget = search-clear largestDimension t target out (more (radius-clear R) (more (budget-clear budget) none))
+  nearest-clear out R budget = search-clear largestSearched t target out (more (radius-clear R) (more (budget-clear budget) none))
 
   pub seeded-clear : (out candidate : List ℤ) (R : Float) (budget : ℕ) → All Clear (seededCallChecks t target out candidate R budget)
   seeded-clear out candidate R budget =
@@ -120,7 +120,7 @@ module _ (t : Table) (target : List Float) where
   list-clear distances points R budget =
       let n = dimension t in
       let last = by-test (ltb largestList (length distances) || not (eqb (length points) (n * length distances))) (listSize (length distances)) (λ q. one-whole) in
-      table-clear largestDimension t (more (length-clear n (length target)) (more (by-index (target-first target)) (more (radius-clear R) (more (budget-clear budget) (more last none)))))
+      table-clear largestSearched t (more (length-clear n (length target)) (more (by-index (target-first target)) (more (radius-clear R) (more (budget-clear budget) (more last none)))))
 
 -- ---- any call with such checks
 fitting-clear : {vs : List Verdict} → All Clear vs → (e : Refusal) → Fits vs e → NoMinusZero e

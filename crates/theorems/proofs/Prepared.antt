@@ -245,7 +245,7 @@ module _ (t : Table) (transform inverse : List ℤ) (target : List Float) (out :
 
     ends : NoneFits checks → EndsMapped t transform inverse target out budget answer (nearestOutput answer out)
     ends f =
-        let e = ml .search .ends (none-ml f) in
+        let e = ml .search .ends (small f) (none-ml f) in
         record {
           point = λ z S m w i. let a = from-found f _ (e .point z S m w .0) (inside-passes z i) in (a, left a ∙ output-found _ out);
           outside = λ z S m w c o. let a = from-outside f _ (e .point z S m w .0) (mappedRange c) (outside-refuses z c o) in (a, left a ∙ output-refused _ out);

@@ -2,17 +2,18 @@
 use mathlib.Core.Path.{_≡_, refl, sym, ap, _∙_, subst}
 use mathlib.Core.List.{List}
 use mathlib.Core.Logic.{inl, inr}
-use Prim.Native.Nat.{ℕ}
+use Prim.Native.Nat.{ℕ, _≤_}
 use native.Mathlib.Nat.{le-refl}
 use lib.Dec.{T, lit≤}
 use lib.ListN.{length}
 use lib.IntN.{ℤ}
 use lib.Ieee.{Float, binary64, fits, lt}
 use lib.Ieee.Scale.{finite}
-use Rattle.definitions.specs.Table.{Table, dimension, plusZero, minusZero, largestDimension}
+use Rattle.definitions.specs.Table.{Table, dimension, plusZero, minusZero, largestDimension, largestSearched}
 use Rattle.definitions.specs.Distance.{distance}
 use Rattle.definitions.specs.Admitted.{allI64, isVector}
 use Rattle.definitions.specs.Listing.{listWalk}
+use Rattle.definitions.specs.Running.{listSearch}
 use Rattle.definitions.specs.Seeds.{nearestPlane, widened}
 use Rattle.definitions.specs.Refusals.{Refusal}
 use Rattle.definitions.specs.Checks.{Verdict, pass, firstRefusal, radiusCheck, handedOn}
@@ -20,7 +21,7 @@ use Rattle.definitions.specs.Calls.{Answer, found, refused, after, distanceChec
 use Rattle.definitions.proofs.Verdicts.{append-passes}
 use Rattle.definitions.proofs.Admissions.{vector-intro}
 use Rattle.definitions.proofs.Passed.{SearchPassed, radius-passed, nearest-passed, SeededPassed, seeded-passed, ml-passed, list-passed, round-refused, round-written, plane-refused, plane-written}
-use Rattle.definitions.proofs.Answers.{after-pass, after-refuse, found≢refused, refused-same, nearest-checks-are, nearest-is, widened-search-is, seeded-checks-are, seeded-is, ml-checks-are, ml-is, list-checks-are, list-is, distances-found, points-found, round-is, plane-is}
+use Rattle.definitions.proofs.Answers.{after-pass, after-refuse, found≢refused, refused-same, nearest-checks-are, nearest-is, widened-search-is, seeded-checks-are, seeded-is, ml-checks-are, ml-is, list-checks-are, list-is, list-search-small, distances-found, points-found, round-is, plane-is}
 use Rattle.definitions.proofs.HandedOn.{own-finite, handed-on-finite, handed-on-nonneg, handed-on-above, handed-on-below, nearest-again, seeded-again, list-again, minus-as-plus}
 use Rattle.theorems.specs.Doubles.{ofDoubles}
 use Rattle.theorems.specs.Refusals.{NoneFits, FirstFits}
@@ -40,11 +41,11 @@ use Rattle.theorems.proofs.MinusZero.{nearest-clear, seeded-clear, ml-c
 use Rattle.theorems.proofs.EndsAsWalk.{ends-as-list-walk}
 use Rattle.theorems.proofs.SearchCalls.{Ready, ready-from, SearchCall, demand-16, found-first, search-promises, nothing-exactly}
 use Rattle.theorems.proofs.CandidateCalls.{widening, ready-widened, Candidate, candidate-demand, from-candidate}
-use Rattle.theorems.proofs.ListCall.{list-found, list-no-minus-zero, list-numbers}
+use Rattle.theorems.proofs.ListCall.{list-found, list-no-minus-zero, list-search-radius, list-numbers}
 
 -- ---- the checks passed, on a table and a target of doubles
-limits-of-search : (t : Table) (target : List Float) (out : List ℤ) → T (ofDoubles t target) → SearchPassed largestDimension t target out → Limits t target
-limits-of-search t target out d p = limits-of-checks largestDimension t target (lit≤ tt) d (p .checked) (sym (p .shape .shape .target-length)) (p .targets)
+limits-of-search : (largest : ℕ) (t : Table) (target : List Float) (out : List ℤ) → largest ≤ 64 → T (ofDoubles t target) → SearchPassed largest t target out → Limits t target
+limits-of-search largest t target out few d p = limits-of-checks largest t target few d (p .checked) (sym (p .shape .shape .target-length)) (p .targets)
 
 ready-at : (t : Table) (target : List Float) → Limits t target → (R : Float) → T (fits binary64 R) → radiusCheck R ≡ pass → Ready t target (handedOn R)
 ready-at t target limits R d q = ready-from limits (handed-on-finite R d q) (handed-on-nonneg R d q)
@@ -66,34 +67,38 @@ module _ (t : Table) (target distances : List Float) (points : List ℤ) (R : Fl
   answer = list t target distances points R budget
 
   abbrev end : Answer ListAnswer
-  end = endOfList (length distances) (listWalk t target (handedOn R) budget)
+  end = endOfList (length distances) (listSearch t target (handedOn R) budget)
 
-  is : answer ≡ after (firstRefusal (listCallChecks t target distances points R budget)) end
+  pub is : answer ≡ after (firstRefusal (listCallChecks t target distances points R budget)) end
   is = list-is t target distances points R budget ∙ ap (λ (v : Verdict). after v end) (list-checks-are t target distances points R budget)
 
-  list-pass : NoneFits (listCallChecks t target distances points R budget) → Limits t target × (radiusCheck R ≡ pass)
+  pub list-pass : NoneFits (listCallChecks t target distances points R budget) → Limits t target × (radiusCheck R ≡ pass)
   list-pass f =
-      let p = list-passed largestDimension t target distances points R budget (list-checks-are t target distances points R budget ∙ none-passes (listCallChecks t target distances points R budget) f) in
-      (limits-of-checks largestDimension t target (lit≤ tt) doubles (p .checked) (sym (p .shape .target-length)) (p .targets), p .radius)
+      let p = list-passed largestSearched t target distances points R budget (list-checks-are t target distances points R budget ∙ none-passes (listCallChecks t target distances points R budget) f) in
+      (limits-of-checks largestSearched t target (lit≤ tt) doubles (p .checked) (sym (p .shape .target-length)) (p .targets), p .radius)
 
-  list-ready : NoneFits (listCallChecks t target distances points R budget) → Ready t target (handedOn R)
+  pub list-ready : NoneFits (listCallChecks t target distances points R budget) → Ready t target (handedOn R)
   list-ready f = let (limits, passed) = list-pass f in ready-at t target limits R double passed
 
-  by-walk : NoneFits (listCallChecks t target distances points R budget) → answer ≡ end
+  pub by-walk : NoneFits (listCallChecks t target distances points R budget) → answer ≡ end
   by-walk f = is ∙ after-pass (firstRefusal (listCallChecks t target distances points R budget)) end (none-passes (listCallChecks t target distances points R budget) f)
 
-  demand : Demand1 (listCallChecks t target distances points R budget) 15 18 answer ((listDistances answer distances ≡ distances) × (listPoints answer points ≡ points))
+  pub demand : Demand1 (listCallChecks t target distances points R budget) 15 18 answer ((listDistances answer distances ≡ distances) × (listPoints answer points ≡ points))
   demand = demand-1 (numbers-below 15 (list-numbered t target distances points R budget) tt) (le-refl 15) (lit≤ tt) (λ f. list-own-numbers _ _) is (slices-unchanged answer distances points) (decision (listCallChecks t target distances points R budget))
 
-  listed-ordered : (a : ListAnswer) → answer ≡ found a → Listed t target (handedOn R) (a .points) (a .nodes) × StrictlyOrdered (a .points)
-  listed-ordered a q = let f = demand .answers .1 (inl (a, q)) in list-found (list-ready f) budget (length distances) (by-walk f) a q
+  -- up to dimension 23 the walk is that of the smaller dimensions
+  by-small : dimension t ≤ 23 → NoneFits (listCallChecks t target distances points R budget) → answer ≡ endOfList (length distances) (listWalk t target (handedOn R) budget)
+  by-small small f = by-walk f ∙ ap (endOfList (length distances)) (list-search-small t target (handedOn R) budget small)
+
+  listed-ordered : dimension t ≤ 23 → (a : ListAnswer) → answer ≡ found a → Listed t target (handedOn R) (a .points) (a .nodes) × StrictlyOrdered (a .points)
+  listed-ordered small a q = let f = demand .answers .1 (inl (a, q)) in list-found (list-ready f) budget (length distances) (by-small small f) a q
 
   -- a list found, at the call's own radius
-  pub own-list : (a : ListAnswer) → answer ≡ found a → OwnList t target R a
-  own-list a q =
+  pub own-list : dimension t ≤ 23 → (a : ListAnswer) → answer ≡ found a → OwnList t target R a
+  own-list small a q =
       let f = demand .answers .1 (inl (a, q)) in
       let (limits, passed) = list-pass f in
-      let (listed, ordered) = listed-ordered a q in
+      let (listed, ordered) = listed-ordered small a q in
       record { limits = limits; radius = own-radius R double passed; listed = listed-same (own-at t target limits R double passed) listed; ordered = ordered }
 
   pub list-promises : ListPromises t target distances points R budget answer (listDistances answer distances) (listPoints answer points)
@@ -103,12 +108,12 @@ module _ (t : Table) (target distances : List Float) (points : List ℤ) (R : Fl
         demand-1 = demand;
         least-number = first-least 0 (list-numbered t target distances points R budget) tt;
         first-indices = list-indices t target distances points R budget;
-        no-minus-zero = call-clear (list-clear t target distances points R budget) is (λ f. list-no-minus-zero (list-ready f) budget (length distances) refl);
-        ends = λ f. ends-as-list-walk (listWalk t target (handedOn R) budget) distances points answer (by-walk f);
-        exact = λ small a q. listed-ordered a q .0;
-        order = λ small a q. listed-ordered a q .1;
+        no-minus-zero = call-clear (list-clear t target distances points R budget) is (λ f. list-no-minus-zero (list-ready f .nonneg) (length distances) (listSearch t target (handedOn R) budget) (list-search-radius (list-ready f) budget));
+        ends = λ small f. ends-as-list-walk (listWalk t target (handedOn R) budget) distances points answer (by-small small f);
+        exact = λ small a q. listed-ordered small a q .0;
+        order = λ small a q. listed-ordered small a q .1;
         slices = λ a q. (ap (λ (x : Answer ListAnswer). listDistances x distances) q ∙ distances-found a distances, ap (λ (x : Answer ListAnswer). listPoints x points) q ∙ points-found a points);
-        numbers = λ small f. list-numbers (list-ready f) budget (length distances) (by-walk f);
+        numbers = λ small f. list-numbers (list-ready f) budget (length distances) (by-small small f);
         radius-bounds = λ small f. let (limits, passed) = list-pass f in bounds-at limits (own-radius R double passed);
         own-radius = λ f. let (limits, passed) = list-pass f in own-at t target limits R double passed;
         at-minus-zero = λ z.
@@ -124,12 +129,12 @@ zero-alike out call again R z = let same = ap call z ∙ minus-as-plus call agai
 
 -- ---- nearest
 module _ (t : Table) (target : List Float) (out : List ℤ) (R : Float) (budget : ℕ) (doubles : T (ofDoubles t target)) (double : T (fits binary64 R)) where
-  nearest-pass : NoneFits (nearestCallChecks t target out R budget) → Limits t target × (radiusCheck R ≡ pass)
+  pub nearest-pass : NoneFits (nearestCallChecks t target out R budget) → Limits t target × (radiusCheck R ≡ pass)
   nearest-pass f =
-      let p = nearest-passed largestDimension t target out R budget (nearest-checks-are t target out R budget ∙ none-passes (nearestCallChecks t target out R budget) f) in
-      (limits-of-search t target out doubles (p .search), p .radius)
+      let p = nearest-passed largestSearched t target out R budget (nearest-checks-are t target out R budget ∙ none-passes (nearestCallChecks t target out R budget) f) in
+      (limits-of-search largestSearched t target out (lit≤ tt) doubles (p .search), p .radius)
 
-  nearest-call : SearchCall (nearestCallChecks t target out R budget) t target (handedOn R) budget (nearest t target out R budget)
+  pub nearest-call : SearchCall (nearestCallChecks t target out R budget) t target (handedOn R) budget (nearest t target out R budget)
   nearest-call = record {
     below = numbers-below 15 (nearest-numbered t target out R budget) tt;
     least = first-least 0 (nearest-numbered t target out R budget) tt;
@@ -144,10 +149,10 @@ module _ (t : Table) (target : List Float) (out : List ℤ) (R : Float) (budget 
       record {
         accepts = nearest-accepts t target out R budget;
         search = search-promises nearest-call out (demand-16 nearest-call out);
-        gives-16 = λ small. nothing-exactly nearest-call;
+        gives-16 = nothing-exactly nearest-call;
         list-first = λ small a q distances points b l e.
-            let (listed, ordered) = listed-ordered t target distances points R b doubles double l e in
-            found-first nearest-call a q (l .points) (l .nodes) listed ordered;
+            let (listed, ordered) = listed-ordered t target distances points R b doubles double small l e in
+            found-first nearest-call small a q (l .points) (l .nodes) listed ordered;
         own-radius = λ f. let (limits, passed) = nearest-pass f in own-at t target limits R double passed;
         at-minus-zero = zero-alike out (λ r. nearest t target out r budget) (λ r. nearest-again t target r budget out) R;
       }
@@ -165,7 +170,7 @@ module _ (t : Table) (target : List Float) (out candidate : List ℤ) (R : Float
   seeded-candidate f =
       let p = seeded-pass f in
       record {
-        start = widening (ready-at t target (limits-of-search t target out doubles (p .search)) R double (p .radius)) (p .wide);
+        start = widening (ready-at t target (limits-of-search largestDimension t target out (lit≤ tt) doubles (p .search)) R double (p .radius)) (p .wide);
         vector = vector-intro t candidate (sym (p .candidate-length)) integers;
         within = failed (lt (handedOn R) (distance t target candidate)) (p .inside);
         searched = append-passes (searchChecks largestDimension t target out) _ (none-passes (seededCallChecks t target out candidate R budget) f) .0;
@@ -198,7 +203,7 @@ module _ (t : Table) (target : List Float) (out : List ℤ) (budget : ℕ) (doub
   ml-candidate f =
       let passed = none-passes (mlCallChecks t target out budget) f in
       let p = ml-passed largestDimension t target out budget (ml-checks-are t target out budget ∙ passed) in
-      let limits = limits-of-search t target out doubles (p .search) in
+      let limits = limits-of-search largestDimension t target out (lit≤ tt) doubles (p .search) in
       let has = held (finite (mlRadius t target)) (p .total) in
       record {
         start = widening (ready-from limits (mlRadius-finite t target limits has) (mlRadius-nonneg t target limits has)) (p .wide);

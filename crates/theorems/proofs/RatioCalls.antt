@@ -80,11 +80,11 @@ module _ (p q : ℕ) where
           gives-0 = (told-0 end, gives-0 end);
           gives-1 = (told-1 end, λ (own, not-so). gives-1 end own not-so);
           refuses = told-any end;
-          of-list = λ a b t target lent points budget doubles same.
+          of-list = λ a b t target lent points budget doubles promise same.
               let range = in-range p q a b in
               let l = list t target lent points R budget in
               let own : ratio p q distances R ≡ listRatio p q l R = ap (λ (ds : List Float). ratio p q ds R) same ∙ ratio-of-written p q R l lent in
-              let promised = list-ratio p q range t target lent points R budget doubles double in
+              let promised = list-ratio p q range t target lent points R budget doubles double promise in
               record {
                 means = λ v. (λ e. promised .means v .0 (sym own ∙ same-found (sym (verdict-of range) ∙ e)), λ m. verdict-of range ∙ ap found (own ∙ promised .means v .1 m));
                 once = promised .once;

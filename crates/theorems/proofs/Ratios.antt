@@ -12,7 +12,7 @@ use lib.Ieee.Scale.{finite}
 use lib.Ieee.Fits.{and-l, and-r}
 use Rattle.rounding.specs.Kinds.{Number, NonNegative}
 use Rattle.rounding.proofs.Interface.{number, zero-nonneg, float-le-trans, not-lt→le, not-le→lt, le→not-lt, nonneg-not-lt}
-use Rattle.definitions.specs.Table.{Table, plusZero}
+use Rattle.definitions.specs.Table.{Table, dimension, plusZero}
 use Rattle.definitions.specs.Distance.{distance}
 use Rattle.definitions.specs.Admitted.{admitted}
 use Rattle.definitions.specs.Listing.{ListPoint}
@@ -25,7 +25,7 @@ use Rattle.definitions.proofs.Ratios.{times-number, times-mono, times-zero, tim
 use Rattle.theorems.specs.Doubles.{ofDoubles}
 use Rattle.theorems.specs.Ordered.{BeginsAt, StrictlyOrdered}
 use Rattle.theorems.specs.Answers.{Listed}
-use Rattle.theorems.specs.Ratios.{Other, First, Short, Holds, Fails, Open, None, Means, RatioPromises}
+use Rattle.theorems.specs.Ratios.{Other, First, Short, Holds, Fails, Open, None, Means, RatioPromises, MeaningPromised}
 use Rattle.theorems.proofs.Booleans.{of-true, of-false, to-true}
 use Rattle.theorems.proofs.Limits.{Limits}
 use Rattle.theorems.proofs.Sums.{distance-nonneg}
@@ -211,16 +211,19 @@ module _ {p q : ℕ} (range : FactorsInRange p q) where
         ∙ ap (λ (c : Bool). cond c holds fails) (zero-met (a .distance) (b .distance) z (second .num) (nonneg-not-lt second))
 
 -- ---- the theorem, over the call
-module _ (p q : ℕ) (range : FactorsInRange p q) (t : Table) (target distances : List Float) (points : List ℤ) (R : Float) (budget : ℕ) (doubles : T (ofDoubles t target)) (double : T (fits binary64 R)) where
+module _ (p q : ℕ) (range : FactorsInRange p q) (t : Table) (target distances : List Float) (points : List ℤ) (R : Float) (budget : ℕ) (doubles : T (ofDoubles t target)) (double : T (fits binary64 R)) (promised : MeaningPromised t (list t target distances points R budget)) where
   abbrev answer : Answer ListAnswer
   answer = list t target distances points R budget
+
+  small : (a : ListAnswer) → answer ≡ found a → dimension t ≤ 23
+  small a h = elim promised [ inl few ↦ few | inr (e, q) ↦ absurd (found≢refused (sym h ∙ q)) ]
 
   verdict-of : (a : ListAnswer) → answer ≡ found a → listRatio p q answer R ≡ ratio p q (distancesOf (a .points)) R
   verdict-of a h = ap (λ (x : Answer ListAnswer). listRatio p q x R) h ∙ list-ratio-found p q R a
 
   by-answer : (x : Answer ListAnswer) → answer ≡ x → (v : Ratio) → (listRatio p q answer R ≡ v) ↔ Means p q t target R answer v
   by-answer (found a) h v =
-      let own = own-list t target distances points R budget doubles double a h in
+      let own = own-list t target distances points R budget doubles double (small a h) a h in
       let mean = subst (Means p q t target R answer) (sym (verdict-of a h)) (points-mean range (own .limits) (own .radius) h (a .points) refl (own .listed) (own .ordered)) in
       (λ e. subst (Means p q t target R answer) e mean, λ m. exclusive p q t target R answer range (own .limits) (own .radius) (listRatio p q answer R) v mean m)
   by-answer (refused e) h v =
@@ -233,9 +236,9 @@ module _ (p q : ℕ) (range : FactorsInRange p q) (t : Table) (target distances 
   pub list-ratio : RatioPromises p q t target R answer
   list-ratio = record {
     means = by-answer answer refl;
-    zero-holds = λ a h z. let own = own-list t target distances points R budget doubles double a h in verdict-of a h ∙ zero-points range (own .limits) (own .radius) (a .points) (own .listed) (own .ordered) z;
+    zero-holds = λ a h z. let own = own-list t target distances points R budget doubles double (small a h) a h in verdict-of a h ∙ zero-points range (own .limits) (own .radius) (a .points) (own .listed) (own .ordered) z;
     once = λ one h.
-        let own = own-list t target distances points R budget doubles double (h .first .list) (h .first .is) in
+        let own = own-list t target distances points R budget doubles double (small (h .first .list) (h .first .is)) (h .first .list) (h .first .is) in
         let d1 = h .point .distance in (
           subst (λ (d : Float). T (le (times p d1) d)) (same-once one R (number (own .radius .finite))) (h .reached),
           λ y o. subst (λ (d : Float). T (le (times p d1) d)) (same-once one (distance t target y) (distance-nonneg t target (own .limits) y (o .vector) .num)) (h .apart y o),

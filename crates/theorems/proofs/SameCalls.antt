@@ -1,20 +1,21 @@
 -- Entries mu that are not read change nothing: every call gives the same answer, count and refusal on tables that differ in them alone.
 -- What a lent slice holds at exit follows from the answer, but for `nearest_plane`, whose slices are told here too. `round` takes no table. Assumes nothing.
 use mathlib.Core.Path.{_≡_, refl, sym, ap, _∙_, subst}
-use mathlib.Core.Bool.{Bool, true, false, not}
+use mathlib.Core.Bool.{Bool, true, false, not, cond}
 use mathlib.Core.List.{List, [], _∷_, _++_}
 use Prim.Native.Nat.{ℕ, _≤_}
 use native.Mathlib.Omega.{arith}
 use borrow.Author.Tests.{eqb-true, not-false}
-use lib.Dec.{eqb}
+use lib.Dec.{eqb, leb}
 use lib.ListN.{length}
 use lib.IntN.{ℤ}
 use lib.Ieee.{Float}
-use Rattle.definitions.specs.Table.{Table, table, dimension, plusZero, largestDimension}
+use Rattle.definitions.specs.Table.{Table, table, dimension, plusZero, largestDimension, largestSearched}
 use Rattle.definitions.specs.Distance.{center, distance}
 use Rattle.definitions.specs.Walk.{Walked, ended, Leaf, still, walk}
 use Rattle.definitions.specs.Nearest.{no-best, consider, nearestWalk}
 use Rattle.definitions.specs.Listing.{collect, listWalk}
+use Rattle.definitions.specs.Running.{runningNearest, runningList, nearestSearch, listSearch}
 use Rattle.definitions.specs.Seeds.{Plane, widened}
 use Rattle.definitions.specs.Refusals.{candidateLength}
 use Rattle.definitions.specs.Checks.{Verdict, refuse, pass, firstRefusal, refuseIf, lengthCheck, planeLengthCheck, targetCheck, finiteCheck, radiusCheck, handedOn, budgetCheck, candidateDistanceCheck, candidateOutsideCheck, widenedRadiusCheck, listSizeCheck}
@@ -24,6 +25,7 @@ use Rattle.definitions.proofs.Verdicts.{orElse, first-append}
 use Rattle.theorems.specs.SameRead.{SameRead}
 use Rattle.theorems.proofs.SameDistances.{same-center, same-partial}
 use Rattle.theorems.proofs.SameWalks.{same-walk}
+use Rattle.theorems.proofs.SameRunning.{same-running-walk}
 use Rattle.theorems.proofs.SamePlanes.{same-plane, same-ml-radius}
 use Rattle.theorems.proofs.SameChecks.{same-table-checks}
 
@@ -49,7 +51,8 @@ module _ (t : Table) (mu′ : List Float) (same : SameRead t (table (t .weights)
   n = dimension t
 
   walk-of : {K : Type 0} (leaf : Leaf K) (budget : ℕ) (w : Walked K) → walk leaf (still (center t target)) t budget n [] plusZero w ≡ walk leaf (still (center t′ target)) t′ budget n [] plusZero w
-  walk-of leaf budget = same-walk leaf (center t target) (center t′ target) t mu′ budget n (same-center t mu′ same target) n [] (omega arith) plusZero
+  walk-of leaf budget =
+      same-walk leaf (still (center t target)) (still (center t′ target)) t mu′ budget n (record { same-at = λ level zs e k. same-center t mu′ same target level zs e; same-moved = λ level h z k. refl }) n [] (omega arith) plusZero
 
   nearest-walk : (R : Float) (budget : ℕ) → nearestWalk t target R budget ≡ nearestWalk t′ target R budget
   unfolding nearestWalk
@@ -59,22 +62,30 @@ module _ (t : Table) (mu′ : List Float) (same : SameRead t (table (t .weights)
   unfolding listWalk
   list-walk R budget = walk-of collect budget (ended [] R 0)
 
+  nearest-search : (R : Float) (budget : ℕ) → nearestSearch t target R budget ≡ nearestSearch t′ target R budget
+  unfolding nearestSearch runningNearest
+  nearest-search R budget = λ k. cond (leb n largestDimension) (nearest-walk R budget k) (same-running-walk t mu′ same consider target no-best R budget k)
+
+  list-search : (R : Float) (budget : ℕ) → listSearch t target R budget ≡ listSearch t′ target R budget
+  unfolding listSearch runningList
+  list-search R budget = λ k. cond (leb n largestDimension) (list-walk R budget k) (same-running-walk t mu′ same collect target [] R budget k)
+
   within : (R : Float) (budget : ℕ) → nearestWithin t target R budget ≡ nearestWithin t′ target R budget
   unfolding nearestWithin
-  within R budget = ap (endOfNearest R) (nearest-walk R budget)
+  within R budget = ap (endOfNearest R) (nearest-search R budget)
 
   widened-search : (R : Float) (budget : ℕ) → widenedSearch t target R budget ≡ widenedSearch t′ target R budget
   unfolding widenedSearch
   widened-search R budget = within (widened n R) budget
 
-  search-checks : (out : List ℤ) → searchChecks largestDimension t target out ≡ searchChecks largestDimension t′ target out
+  search-checks : (largest : ℕ) (out : List ℤ) → searchChecks largest t target out ≡ searchChecks largest t′ target out
   unfolding searchChecks
-  search-checks out = ap (λ (vs : List Verdict). vs ++ lengthCheck n (length target) ∷ lengthCheck n (length out) ∷ targetCheck target ∷ []) (same-table-checks t mu′ same largestDimension)
+  search-checks largest out = ap (λ (vs : List Verdict). vs ++ lengthCheck n (length target) ∷ lengthCheck n (length out) ∷ targetCheck target ∷ []) (same-table-checks t mu′ same largest)
 
   nearest-of : (out : List ℤ) (R : Float) (budget : ℕ) → nearest t target out R budget ≡ nearest t′ target out R budget
   unfolding nearest nearestChecks
   nearest-of out R budget = λ k.
-      after (firstRefusal (search-checks out k ++ radiusCheck R ∷ budgetCheck budget ∷ [])) (within (handedOn R) budget k)
+      after (firstRefusal (search-checks largestSearched out k ++ radiusCheck R ∷ budgetCheck budget ∷ [])) (within (handedOn R) budget k)
 
   seeded-checks : (out candidate : List ℤ) (R : Float) (budget : ℕ) → seededChecks largestDimension t target out candidate R budget ≡ seededChecks largestDimension t′ target out candidate R budget
   unfolding seededChecks candidateChecks
@@ -85,7 +96,7 @@ module _ (t : Table) (mu′ : List Float) (same : SameRead t (table (t .weights)
       let d′ = distance t′ target candidate in
       let checks = candidateChecks n found wrong (handedOn R) in
       let of-length : wrong ≡ false → d ≡ d′ = λ q. let e = eqb-true n found (not-false (eqb n found) q) in same-partial t mu′ same target candidate (omega (arith, e)) in
-      ap (λ (vs : List Verdict). firstRefusal (vs ++ radiusCheck R ∷ budgetCheck budget ∷ checks d)) (search-checks out)
+      ap (λ (vs : List Verdict). firstRefusal (vs ++ radiusCheck R ∷ budgetCheck budget ∷ checks d)) (search-checks largestDimension out)
       ∙ first-after (searchChecks largestDimension t′ target out) (radiusCheck R ∷ budgetCheck budget ∷ checks d) (radiusCheck R ∷ budgetCheck budget ∷ checks d′)
       (first-after (radiusCheck R ∷ budgetCheck budget ∷ []) (checks d) (checks d′) (length-first n found wrong (handedOn R) d d′ of-length))
 
@@ -98,13 +109,13 @@ module _ (t : Table) (mu′ : List Float) (same : SameRead t (table (t .weights)
   ml-of out budget =
       let radius = same-ml-radius t mu′ same target in
       let search = widened-search (mlRadius t target) budget ∙ ap (λ (R : Float). widenedSearch t′ target R budget) radius in
-      λ k. after (firstRefusal (search-checks out k ++ budgetCheck budget ∷ candidateDistanceCheck (radius k) ∷ widenedRadiusCheck (widened n (radius k)) ∷ [])) (search k)
+      λ k. after (firstRefusal (search-checks largestDimension out k ++ budgetCheck budget ∷ candidateDistanceCheck (radius k) ∷ widenedRadiusCheck (widened n (radius k)) ∷ [])) (search k)
 
   list-of : (distances : List Float) (points : List ℤ) (R : Float) (budget : ℕ) → list t target distances points R budget ≡ list t′ target distances points R budget
   unfolding list listChecks
   list-of distances points R budget = λ k.
-      after (firstRefusal (same-table-checks t mu′ same largestDimension k ++ lengthCheck n (length target) ∷ targetCheck target ∷ radiusCheck R ∷ budgetCheck budget ∷ listSizeCheck n (length distances) (length points) ∷ []))
-      (endOfList (length distances) (list-walk (handedOn R) budget k))
+      after (firstRefusal (same-table-checks t mu′ same largestSearched k ++ lengthCheck n (length target) ∷ targetCheck target ∷ radiusCheck R ∷ budgetCheck budget ∷ listSizeCheck n (length distances) (length points) ∷ []))
+      (endOfList (length distances) (list-search (handedOn R) budget k))
 
   plane-of : (out : List ℤ) → plane t target out ≡ plane t′ target out
   unfolding plane

@@ -1,12 +1,13 @@
 -- Sorting changes only the order of the points, and puts those of a list walk strictly in the list's order. Assumes nothing.
 use mathlib.Core.Path.{_≡_, refl, sym, ap, _∙_, subst}
 use mathlib.Core.Logic.{_⊎_, inl, inr}
-use Prim.Native.Nat.{ℕ, _+_, _≤_, _<_}
+use Prim.Native.Nat.{ℕ, suc, _+_, _≤_, _<_}
 use native.Mathlib.Nat.{add-left-comm, le-trans, le-of-eq, le-add-left, suc-ne-zero}
 use native.Mathlib.Omega.{arith}
 use mathlib.Core.Bool.{Bool, true, false, not, cond}
 use mathlib.Core.List.{List, [], _∷_}
 use lib.Dec.{T}
+use lib.ListN.{length}
 use lib.IntN.{ℤ}
 use lib.Ieee.{Float, binary64, lt}
 use Rattle.rounding.specs.Kinds.{NonNegative, Finite}
@@ -42,7 +43,7 @@ module _ (P : ListPoint → Type 0) where
       go true r = (p, h)
       go false r = (h .0, r)
 
-  every-sorted : (ps : List ListPoint) → Every P ps → Every P (sorted ps)
+  pub every-sorted : (ps : List ListPoint) → Every P ps → Every P (sorted ps)
   every-sorted [] h = subst (Every P) (sym sorted-nil) tt
   every-sorted (a ∷ ps) h = subst (Every P) (sym (sorted-cons a ps)) (every-insert a (sorted ps) (h .0) (every-sorted ps (h .1)))
 
@@ -54,6 +55,19 @@ insert-count x a (b ∷ bs) = ap (λ (l : List ListPoint). count x (vectorsOf l)
     go : (y : Bool) → count x (vectorsOf (insert a bs)) ≡ tally (sameVector x (a .point)) + count x (vectorsOf bs) → count x (vectorsOf (cond y (a ∷ b ∷ bs) (b ∷ insert a bs))) ≡ tally (sameVector x (a .point)) + (tally (sameVector x (b .point)) + count x (vectorsOf bs))
     go true h = refl
     go false h = ap (λ (k : ℕ). tally (sameVector x (b .point)) + k) h ∙ add-left-comm (tally (sameVector x (b .point))) (tally (sameVector x (a .point))) (count x (vectorsOf bs))
+
+-- there are as many points
+insert-length : (a : ListPoint) (bs : List ListPoint) → length (insert a bs) ≡ suc (length bs)
+insert-length a [] = ap (λ (l : List ListPoint). length l) (insert-nil a)
+insert-length a (b ∷ bs) = ap (λ (l : List ListPoint). length l) (insert-cons a b bs) ∙ go (listedBefore a b) (insert-length a bs)
+  where
+    go : (x : Bool) → length (insert a bs) ≡ suc (length bs) → length (cond x (a ∷ b ∷ bs) (b ∷ insert a bs)) ≡ suc (suc (length bs))
+    go true h = refl
+    go false h = ap suc h
+
+pub sorted-length : (ps : List ListPoint) → length (sorted ps) ≡ length ps
+sorted-length [] = ap (λ (l : List ListPoint). length l) sorted-nil
+sorted-length (a ∷ ps) = ap (λ (l : List ListPoint). length l) (sorted-cons a ps) ∙ insert-length a (sorted ps) ∙ ap suc (sorted-length ps)
 
 -- each vector stands as often in the sorted list
 pub sorted-count : (x : List ℤ) (ps : List ListPoint) → count x (vectorsOf (sorted ps)) ≡ count x (vectorsOf ps)

@@ -16,7 +16,7 @@ use Rattle.rounding.proofs.Interface.{number, ord, le→ord, ord→le, finite-b
 use Rattle.definitions.specs.Table.{Table, dimension, weight, plusZero}
 use Rattle.definitions.specs.Distance.{center, term, partial, distance}
 use Rattle.definitions.specs.Admitted.{allI64, isVector, secondTest, passes, admitted}
-use Rattle.definitions.specs.Walk.{Walked, ended, exhausted, Leaf, Descent, still, descendIf, visit, walk}
+use Rattle.definitions.specs.Walk.{Walked, ended, exhausted, Leaf, Descent, Centers, still, descendIf, visit, walk}
 use Rattle.definitions.specs.Nearest.{Best, no-best, best, replaces, consider, nearestWalk}
 use Rattle.definitions.specs.Listing.{collect, listWalk}
 use Rattle.definitions.proofs.Distances.{partial-nil, partial-step}
@@ -39,48 +39,56 @@ use Rattle.theorems.proofs.Search.{Held, State, child-opened}
 
 -- ---- any walk
 -- what is kept and the standing radius have Q, at an end and where the budget was exhausted
-abbrev Stands : {K : Type 0} → (K → Float → Type 0) → Walked K → Type 0
+abbrev pub Stands : {K : Type 0} → (K → Float → Type 0) → Walked K → Type 0
 Stands Q (ended k S m) = Q k S
 Stands {K} Q (exhausted m S) = (k : K) × Q k S
 
-module _ {K : Type 0} (leaf : Leaf K) (outcome : Outcome K) (leaf-is : LeafOf leaf outcome) (centerOf : ℕ → List ℤ → Float) (t : Table) (budget : ℕ) (Q : K → Float → Type 0) where
-  -- the partial sum of a child
-  abbrev childSum : ℕ → List ℤ → Float → ℤ → Float
-  childSum level zs p z = add binary64 p (term (weight t level) (centerOf level zs) z)
+module _ {K : Type 0} (leaf : Leaf K) (outcome : Outcome K) (leaf-is : LeafOf leaf outcome) (centers : Centers K) (t : Table) (budget : ℕ) (Q : K → Float → Type 0) where
+  -- the partial sum of a child of a level with centre c
+  abbrev pub childSum : ℕ → Float → Float → ℤ → Float
+  childSum level p c z = add binary64 p (term (weight t level) c z)
 
-  module _ (level : ℕ) (zs : List ℤ) (p : Float) (down : Descent K) (Child : ℤ → Type 0)
-      (keeps : (z : ℤ) → Child z → (k : K) (S : Float) (m : ℕ) → Q k S → T (le (childSum level zs p z) S) → Stands Q (down (z ∷ zs) (childSum level zs p z) (ended k S m))) where
-    visit-stands : (b : Bool) (z : ℤ) → Child z → (k : K) (S : Float) (m : ℕ) → Q k S → Stands Q (visit leaf (still centerOf) t budget b down (z ∷ zs) (childSum level zs p z) k S m)
-    visit-stands true z i k S m q = rw (visit-exhausted leaf (still centerOf) t budget down (z ∷ zs) (childSum level zs p z) k S m) (k, q)
-    visit-stands false z i k S m q = rw (visit-counted leaf (still centerOf) t budget down (z ∷ zs) (childSum level zs p z) k S m) (go (le (childSum level zs p z) S) refl)
+  module _ (level : ℕ) (zs : List ℤ) (p c : Float) (down : Descent K) (Child : ℤ → Type 0)
+      (takes : (z : ℤ) → Child z → (k : K) (S : Float) → Q k S → Q (centers .moved level z k) S)
+      (keeps : (z : ℤ) → Child z → (k : K) (S : Float) (m : ℕ) → Q k S → T (le (childSum level p c z) S) → Stands Q (down (z ∷ zs) (childSum level p c z) (ended k S m))) where
+    visit-stands : (b : Bool) (z : ℤ) → Child z → (k : K) (S : Float) (m : ℕ) → Q k S → Stands Q (visit leaf centers t budget b down (z ∷ zs) (childSum level p c z) k S m)
+    visit-stands true z i k S m q = rw (visit-exhausted leaf centers t budget down (z ∷ zs) (childSum level p c z) k S m) (k, q)
+    visit-stands false z i k S m q = rw (visit-counted leaf centers t budget down (z ∷ zs) (childSum level p c z) k S m) (go (le (childSum level p c z) S) refl)
       where
-        go : (b : Bool) → le (childSum level zs p z) S ≡ b → Stands Q (descendIf leaf (still centerOf) t budget b down (z ∷ zs) (childSum level zs p z) (ended k S (suc m)))
-        go true e = rw (descends leaf (still centerOf) t budget down (z ∷ zs) (childSum level zs p z) (ended k S (suc m))) (keeps z i k S (suc m) q (of-true e))
-        go false e = rw (prunes leaf (still centerOf) t budget down (z ∷ zs) (childSum level zs p z) (ended k S (suc m))) q
+        go : (b : Bool) → le (childSum level p c z) S ≡ b → Stands Q (descendIf leaf centers t budget b down (z ∷ zs) (childSum level p c z) (ended k S (suc m)))
+        go true e = rw (descends leaf centers t budget down (z ∷ zs) (childSum level p c z) (ended k S (suc m))) (keeps z i k S (suc m) q (of-true e))
+        go false e = rw (prunes leaf centers t budget down (z ∷ zs) (childSum level p c z) (ended k S (suc m))) q
 
-    each-stands : (cs : List ℤ) → ((z : ℤ) → 0 < times z cs → Child z) → (w : Walked K) → Stands Q w → Stands Q (tryEach leaf (still centerOf) t budget down level zs p (centerOf level zs) cs w)
-    each-stands [] all w q = rw (each-nil leaf (still centerOf) t budget down level zs p (centerOf level zs) w) q
-    each-stands (z ∷ cs) all (exhausted m S) q = rw (each-exhausted leaf (still centerOf) t budget down level zs p (centerOf level zs) (z ∷ cs) m S) q
+    each-stands : (cs : List ℤ) → ((z : ℤ) → 0 < times z cs → Child z) → (w : Walked K) → Stands Q w → Stands Q (tryEach leaf centers t budget down level zs p c cs w)
+    each-stands [] all w q = rw (each-nil leaf centers t budget down level zs p c w) q
+    each-stands (z ∷ cs) all (exhausted m S) q = rw (each-exhausted leaf centers t budget down level zs p c (z ∷ cs) m S) q
     each-stands (z ∷ cs) all (ended k S m) q =
-        rw (each-cons leaf (still centerOf) t budget down level zs p (centerOf level zs) z cs k S m)
-        (each-stands cs (λ y h. all y (lt-of-lt-of-le h (le-add-left (times y cs) (tally (eqZ y z))))) _ (visit-stands (leb budget m) z (all z first) k S m q))
+        rw (each-cons leaf centers t budget down level zs p c z cs k S m)
+        (each-stands cs (λ y h. all y (lt-of-lt-of-le h (le-add-left (times y cs) (tally (eqZ y z))))) _ (visit-stands (leb budget m) z (all z first) (centers .moved level z k) S m (takes z (all z first) k S q)))
       where
         first : 0 < times z (z ∷ cs)
         first = subst (λ (k : ℕ). 0 < k) (sym (times-same z z cs refl)) (omega arith)
 
+  -- z is a child of a level that is entered with k kept at the standing radius S
+  abbrev pub ChildAt : ℕ → List ℤ → Float → K → Float → ℤ → Type 0
+  ChildAt level zs p k S z = 0 < times z (children (centers .at level zs k) (sub binary64 S p) (weight t level))
+
   -- `At` holds of the prefixes that the walk comes to: the levels left, the coordinates and the partial sum
   module _ (At : ℕ → List ℤ → Float → Type 0)
-      (child-at : (level : ℕ) (zs : List ℤ) (p : Float) → At (suc level) zs p → (k : K) (S : Float) → Q k S → (z : ℤ) → 0 < times z (children (centerOf level zs) (sub binary64 S p) (weight t level)) → (k′ : K) (S′ : Float) → Q k′ S′ → T (le (childSum level zs p z) S′) → At level (z ∷ zs) (childSum level zs p z))
+      (child-at : (level : ℕ) (zs : List ℤ) (p : Float) → At (suc level) zs p → (k : K) (S : Float) → Q k S → (z : ℤ) → ChildAt level zs p k S z → (k′ : K) (S′ : Float) → Q k′ S′ → T (le (childSum level p (centers .at level zs k) z) S′) → At level (z ∷ zs) (childSum level p (centers .at level zs k) z))
+      (child-takes : (level : ℕ) (zs : List ℤ) (p : Float) → At (suc level) zs p → (k : K) (S : Float) → Q k S → (z : ℤ) → ChildAt level zs p k S z → (k′ : K) (S′ : Float) → Q k′ S′ → Q (centers .moved level z k′) S′)
       (leaf-keeps : (zs : List ℤ) (p : Float) → At 0 zs p → (k : K) (S : Float) → Q k S → Q (outcome zs p k S .0) (outcome zs p k S .1)) where
-    walk-stands : (d : ℕ) (zs : List ℤ) (p : Float) → At d zs p → (w : Walked K) → Stands Q w → Stands Q (walk leaf (still centerOf) t budget d zs p w)
-    walk-stands zero zs p a (exhausted m S) q = rw (walk-leaf leaf (still centerOf) t budget zs p (exhausted m S), leaf-exhausted leaf (still centerOf) t budget zs p m S) q
-    walk-stands zero zs p a (ended k S m) q = rw (walk-leaf leaf (still centerOf) t budget zs p (ended k S m), leaf-ended leaf (still centerOf) t budget zs p k S m, leaf-is zs p k S m) (leaf-keeps zs p a k S q)
-    walk-stands (suc level) zs p a (exhausted m S) q = rw (walk-level leaf (still centerOf) t budget level zs p (exhausted m S), enter-exhausted leaf (still centerOf) t budget (walk leaf (still centerOf) t budget level) level zs p m S) q
+    pub walk-stands : (d : ℕ) (zs : List ℤ) (p : Float) → At d zs p → (w : Walked K) → Stands Q w → Stands Q (walk leaf centers t budget d zs p w)
+    walk-stands zero zs p a (exhausted m S) q = rw (walk-leaf leaf centers t budget zs p (exhausted m S), leaf-exhausted leaf centers t budget zs p m S) q
+    walk-stands zero zs p a (ended k S m) q = rw (walk-leaf leaf centers t budget zs p (ended k S m), leaf-ended leaf centers t budget zs p k S m, leaf-is zs p k S m) (leaf-keeps zs p a k S q)
+    walk-stands (suc level) zs p a (exhausted m S) q = rw (walk-level leaf centers t budget level zs p (exhausted m S), enter-exhausted leaf centers t budget (walk leaf centers t budget level) level zs p m S) q
     walk-stands (suc level) zs p a (ended k S m) q =
-        rw (walk-level leaf (still centerOf) t budget level zs p (ended k S m), enter-each leaf (still centerOf) t budget (walk leaf (still centerOf) t budget level) (walk-counting leaf outcome leaf-is (still centerOf) t budget level) level zs p k S m)
-        (each-stands level zs p (walk leaf (still centerOf) t budget level) (λ z. 0 < times z (children (centerOf level zs) (sub binary64 S p) (weight t level)))
-        (λ z h k′ S′ m′ q′ l. walk-stands level (z ∷ zs) (childSum level zs p z) (child-at level zs p a k S q z h k′ S′ q′ l) (ended k′ S′ m′) q′)
-        (children (centerOf level zs) (sub binary64 S p) (weight t level)) (λ z h. h) (ended k S m) q)
+        let c = centers .at level zs k in
+        rw (walk-level leaf centers t budget level zs p (ended k S m), enter-each leaf centers t budget (walk leaf centers t budget level) (walk-counting leaf outcome leaf-is centers t budget level) level zs p k S m)
+        (each-stands level zs p c (walk leaf centers t budget level) (ChildAt level zs p k S)
+        (child-takes level zs p a k S q)
+        (λ z h k′ S′ m′ q′ l. walk-stands level (z ∷ zs) (childSum level p c z) (child-at level zs p a k S q z h k′ S′ q′ l) (ended k′ S′ m′) q′)
+        (children c (sub binary64 S p) (weight t level)) (λ z h. h) (ended k S m) q)
 
 -- ---- nearest
 module _ (t : Table) (target : List Float) (limits : Limits t target) (R : Float) (finite : Finite binary64 R) (plus : T (not (lt R plusZero))) where
@@ -135,7 +143,7 @@ module _ (t : Table) (target : List Float) (limits : Limits t target) (R : Float
   nearest-stands : (budget : ℕ) → Stands Standing (nearestWalk t target R budget)
   nearest-stands budget =
       rw (nearestWalk-is t target R budget)
-      (walk-stands consider nearer consider-leaf (center t target) t budget Standing Reached child-reached leaf-stands (dimension t) [] plusZero
+      (walk-stands consider nearer consider-leaf (still (center t target)) t budget Standing Reached child-reached (λ level zs p a k S q z h k′ S′ q′. q′) leaf-stands (dimension t) [] plusZero
       (record { levels = zero-add (dimension t); all = allI64-nil; passing = of-true (passes-nil t target R); sum = partial-nil t target }) (ended no-best R 0) (record { radius = finite; within = le-refl (ord binary64 R); held = refl }))
 
   -- the radius that stood when the budget was exhausted
@@ -151,4 +159,4 @@ module _ (t : Table) (target : List Float) (limits : Limits t target) (R : Float
 pub list-radius : (t : Table) (target : List Float) (R : Float) (budget m : ℕ) (S : Float) → listWalk t target R budget ≡ exhausted m S → S ≡ R
 list-radius t target R budget m S e =
     subst (Stands (λ k S′. S′ ≡ R)) (sym (listWalk-is t target R budget) ∙ e)
-    (walk-stands collect added collect-leaf (center t target) t budget (λ k S′. S′ ≡ R) (λ d zs p. Unit {0}) (λ level zs p a k S′ q z h k′ S″ q′ l. tt) (λ zs p a k S′ q. q) (dimension t) [] plusZero tt (ended [] R 0) refl) .1
+    (walk-stands collect added collect-leaf (still (center t target)) t budget (λ k S′. S′ ≡ R) (λ d zs p. Unit {0}) (λ level zs p a k S′ q z h k′ S″ q′ l. tt) (λ level zs p a k S′ q z h k′ S″ q′. q′) (λ zs p a k S′ q. q) (dimension t) [] plusZero tt (ended [] R 0) refl) .1

@@ -51,7 +51,7 @@ pub record RadiusAccepted (radius : Float) (budget : ℕ) : Type 0 where
 
 -- `nearest`
 pub record NearestAccepted (t : Table) (target : List Float) (out : List ℤ) (radius : Float) (budget : ℕ) : Type 0 where
-  pub search : SearchAccepted 23 t target out
+  pub search : SearchAccepted 64 t target out
   pub within : RadiusAccepted radius budget
 
 -- `nearest_seeded`: 10 to 13 beside, of the radius that 8 hands on
@@ -72,7 +72,7 @@ pub record MlAccepted (t : Table) (target : List Float) (out : List ℤ) (budget
 
 -- `list`: 14 beside, and no output
 pub record ListAccepted (t : Table) (target distances : List Float) (points : List ℤ) (radius : Float) (budget : ℕ) : Type 0 where
-  pub table-target : TargetAccepted 23 t target
+  pub table-target : TargetAccepted 64 t target
   pub within : RadiusAccepted radius budget
   pub places-most : length distances ≤ 4096
   pub points-length : length points ≡ dimension t * length distances

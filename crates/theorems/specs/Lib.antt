@@ -4,6 +4,7 @@ pub mod Counting
 pub mod Children
 pub mod Prefixes
 pub mod Unbudgeted
+pub mod Running
 pub mod Ordered
 pub mod Refusals
 pub mod Answers

@@ -1,5 +1,5 @@
 -- What each call promises of its answer and of the slices it leaves (docs/SPECIFICATION.md, "What is promised"): a record for each call, for every input of doubles. Definitions only.
--- `answer` and the primed slices are what the caller gets. Beside "where no check fits", n ≤ 23 stands where a promise is made up to dimension 23 and its checks do not say so.
+-- `answer` and the primed slices are what the caller gets. Beside "where no check fits", n ≤ 23 stands where a promise is made up to dimension 23 and the checks of `nearest` and `list` do not say so; the searches from a candidate share the record.
 use mathlib.Core.Path.{_≡_}
 use mathlib.Core.List.{List, [], map}
 use mathlib.Core.Logic.{_⊎_, _↔_}
@@ -9,7 +9,7 @@ use lib.ListN.{length}
 use lib.IntN.{ℤ}
 use lib.Ieee.{Float, lt}
 use Rattle.rounding.specs.Integers.{roundAway}
-use Rattle.definitions.specs.Table.{Table, dimension, largestDimension, plusZero, minusZero}
+use Rattle.definitions.specs.Table.{Table, dimension, largestDimension, largestSearched, plusZero, minusZero}
 use Rattle.definitions.specs.Distance.{distance, hasDistance}
 use Rattle.definitions.specs.Admitted.{isVector, admitted, opened}
 use Rattle.definitions.specs.Nearest.{nearestWalk}
@@ -53,7 +53,7 @@ pub record SearchPromises (checks : List Verdict) (k : ℕ) (t : Table) (target 
   -- no refusal carries minus zero
   pub no-minus-zero : (e : Refusal) → answer ≡ refused e → NoMinusZero e
   -- where no check fits: the same point, count and distance as the walk, or the same refusal and numbers; and out
-  pub ends : NoneFits checks → EndsAsWalk R (nearestWalk t target R budget) out answer out′
+  pub ends : dimension t ≤ 23 → NoneFits checks → EndsAsWalk R (nearestWalk t target R budget) out answer out′
   -- a point found: out holds a vector of n signed 64-bit integers, admitted at R, and no such vector has a smaller computed distance
   pub point : dimension t ≤ 23 → (a : NearestPoint) → answer ≡ found a → Nearest t target R out′
   -- its distance is the computed distance of what out holds, which does not overflow
@@ -75,7 +75,7 @@ NothingToFind checks t target R budget =
 -- `nearest`
 module _ (t : Table) (target : List Float) (out : List ℤ) (radius : Float) (budget : ℕ) where
   abbrev pub nearestCallChecks : List Verdict
-  nearestCallChecks = checksOfNearest largestDimension t target out radius budget
+  nearestCallChecks = checksOfNearest largestSearched t target out radius budget
 
   pub record NearestPromises (answer : Answer NearestPoint) (out′ : List ℤ) : Type 0 where
     -- no check fits exactly where the input is one that the call accepts
@@ -161,7 +161,7 @@ pub record ListNumbers (t : Table) (target : List Float) (R : Float) (budget pla
 -- `list`
 module _ (t : Table) (target distances : List Float) (points : List ℤ) (radius : Float) (budget : ℕ) where
   abbrev pub listCallChecks : List Verdict
-  listCallChecks = checksOfList largestDimension t target distances points radius budget
+  listCallChecks = checksOfList largestSearched t target distances points radius budget
 
   pub record ListPromises (answer : Answer ListAnswer) (distances′ : List Float) (points′ : List ℤ) : Type 0 where
     pub accepts : NoneFits listCallChecks ↔ ListAccepted t target distances points radius budget
@@ -173,7 +173,7 @@ module _ (t : Table) (target distances : List Float) (points : List ℤ) (radius
     -- no refusal carries minus zero
     pub no-minus-zero : (e : Refusal) → answer ≡ refused e → NoMinusZero e
     -- where no check fits: the same list and count as the walk, or the same refusal and numbers; and both slices
-    pub ends : NoneFits listCallChecks → EndsAsListWalk (listWalk t target (handedOn radius) budget) distances points answer distances′ points′
+    pub ends : dimension t ≤ 23 → NoneFits listCallChecks → EndsAsListWalk (listWalk t target (handedOn radius) budget) distances points answer distances′ points′
     -- every admitted vector once, nothing else, each with its own distance; as many nodes as there are opened prefixes
     pub exact : dimension t ≤ 23 → (a : ListAnswer) → answer ≡ found a → Listed t target (handedOn radius) (a .points) (a .nodes)
     -- strictly in the list's order

@@ -4,13 +4,13 @@ use mathlib.Core.Path.{_≡_}
 use mathlib.Core.Bool.{not}
 use mathlib.Core.List.{List, _∷_}
 use mathlib.Core.Logic.{_⊎_, _↔_}
-use Prim.Native.Nat.{ℕ}
+use Prim.Native.Nat.{ℕ, _≤_}
 use lib.Dec.{T}
 use lib.ListN.{take}
 use lib.IntN.{ℤ}
 use lib.Ieee.{Float, le, lt}
 use lib.Ieee.Scale.{finite}
-use Rattle.definitions.specs.Table.{Table, plusZero}
+use Rattle.definitions.specs.Table.{Table, dimension, plusZero}
 use Rattle.definitions.specs.Distance.{distance}
 use Rattle.definitions.specs.Admitted.{isVector, admitted}
 use Rattle.definitions.specs.Listing.{ListPoint}
@@ -91,6 +91,10 @@ module _ (p q : ℕ) (t : Table) (target : List Float) (R : Float) (answer : Ans
   abbrev pub RatioPromises : Type 0
   RatioPromises = RatioMeans (λ verdict. listRatio p q answer R ≡ verdict)
 
+-- where a verdict's meaning is promised: up to dimension 23, and of a list that was refused
+abbrev pub MeaningPromised : Table → Answer ListAnswer → Type 0
+MeaningPromised t l = (dimension t ≤ 23) ⊎ ((e : Refusal) × (l ≡ refused e))
+
 -- ---- the call `ratio`, on the distances that a `list` at R wrote or on any others
 pub record RatioCallPromises (p q : ℕ) (distances : List Float) (R : Float) (answer : Answer Ratio) : Type 0 where
   -- a verdict exactly where both are right
@@ -99,8 +103,8 @@ pub record RatioCallPromises (p q : ℕ) (distances : List Float) (R : Float) (a
   pub gives-0 : (answer ≡ refused (settingRange 0)) ↔ (RightP p q → ⊥)
   pub gives-1 : (answer ≡ refused (settingRange 1)) ↔ (RightP p q × (RightQ q → ⊥))
   pub refuses : (e : Refusal) → answer ≡ refused e → (e ≡ settingRange 0) ⊎ (e ≡ settingRange 1)
-  -- handed the distances that a `list` at R left, as many as it has points, whatever its table, target, budget and slices, and none of a list
-  -- that was refused: what is promised of the verdict on that list is so of the answer
+  -- handed the distances that a `list` at R left, as many as it has points, whatever its table of dimension up to 23, target, budget and slices,
+  -- and none of a list that was refused, whatever its dimension: what is promised of the verdict on that list is so of the answer
   pub of-list : RightP p q → RightQ q → (t : Table) (target lent : List Float) (points : List ℤ) (budget : ℕ) → T (ofDoubles t target) →
       let l = list t target lent points R budget in
-      distances ≡ take (pointsIn l) (listDistances l lent) → RatioMeans p q t target R l (λ verdict. answer ≡ found verdict)
+      MeaningPromised t l → distances ≡ take (pointsIn l) (listDistances l lent) → RatioMeans p q t target R l (λ verdict. answer ≡ found verdict)

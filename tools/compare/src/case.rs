@@ -1,6 +1,7 @@
 //! A case: one call with all its arguments.
 
 use crate::matrices::Pair;
+use crate::paper::{LARGEST_N, LARGEST_SEARCHED};
 use std::fmt;
 
 #[derive(Clone, Copy, PartialEq, Eq, Debug)]
@@ -61,6 +62,12 @@ impl Call {
     pub const fn takes_matrices(self) -> bool {
         matches!(self, Prepared)
     }
+
+    /// The most dimensions of its table.
+    #[must_use]
+    pub const fn largest(self) -> usize {
+        if matches!(self, Nearest | List) { LARGEST_SEARCHED } else { LARGEST_N }
+    }
 }
 
 /// Arguments that a call does not take stand here too, and are not handed on.
@@ -104,6 +111,12 @@ impl Case {
     }
 
     #[must_use]
+    pub const fn with_budget(mut self, budget: u64) -> Self {
+        self.budget = budget;
+        self
+    }
+
+    #[must_use]
     pub fn with_candidate(mut self, candidate: &[i64]) -> Self {
         self.candidate = candidate.to_vec();
         self
@@ -118,6 +131,29 @@ impl Case {
     #[must_use]
     pub fn with_pair(self, pair: &Pair) -> Self {
         self.with_matrices(&pair.transform, &pair.inverse)
+    }
+}
+
+impl Case {
+    /// What differs from weights 1 and zeros, of mu below the diagonal alone: a line of many dimensions is long.
+    #[must_use]
+    pub fn brief(&self) -> String {
+        let n = self.weights.len();
+        let others = |name: &str, list: &[f64], usual: f64, read: &dyn Fn(usize) -> bool| -> String {
+            let others = list.iter().enumerate().filter(|(k, x)| read(*k) && x.to_bits() != usual.to_bits());
+            others.map(|(k, x)| format!(" {name}[{k}] {x:?}")).collect()
+        };
+        let (weights, target) = (&self.weights, &self.target);
+        format!(
+            "{} n {n}{}{}{} radius {:?} budget {} places {}",
+            self.call.name(),
+            others("weight", weights, 1.0, &|_| true),
+            others("mu", &self.mu, 0.0, &|k| k / n > k % n),
+            others("target", target, 0.0, &|_| true),
+            self.radius,
+            self.budget,
+            self.places
+        )
     }
 }
 

@@ -3,7 +3,8 @@
 
 use crate::answer::{Answer, Report, before};
 use crate::case::{Call, Case};
-use crate::paper;
+use crate::paper::running::{Walked, running};
+use crate::paper::{self, runs};
 use oracle::Enumerator;
 use oracle::enumerate::{EnumerationScratch, ListPoint};
 use oracle::error::DecodeError;
@@ -34,10 +35,13 @@ pub fn expected(case: &Case) -> Expected {
         }
         (None, Ok(answer)) => Expected { disagreement: second_reading(case, &answer), answer },
         (None, Err(error)) => {
-            let report = search_refusal(case, error);
-            let stray = report.number == UNKNOWN;
-            let disagreement = stray.then(|| format!("the reading takes the call, the Rust says {error:?}"));
-            Expected { answer: Answer::untouched(case, report), disagreement }
+            let answer = Answer::untouched(case, search_refusal(case, error));
+            let disagreement = if answer.report.number == UNKNOWN {
+                Some(format!("the reading takes the call, the Rust says {error:?}"))
+            } else {
+                second_reading(case, &answer)
+            };
+            Expected { answer, disagreement }
         }
     }
 }
@@ -132,26 +136,57 @@ fn rust_list(case: &Case, table: &Enumerator, budget: u64) -> Result<Vec<ListPoi
 /// `second_reading` makes sure of.
 fn listed(case: &Case, table: &Enumerator) -> Result<Answer, DecodeError> {
     let list = rust_list(case, table, case.budget)?;
-    if list.len() > case.places {
-        return Ok(Answer::untouched(case, Report::whole(18, list.len() as u64, 0)));
-    }
-    let (mut integers, mut doubles) = before(case);
-    let n = case.weights.len();
-    for (k, point) in list.iter().enumerate() {
-        doubles[k] = point.distance_sq().to_bits();
-        integers[k * n..(k + 1) * n].copy_from_slice(point.point());
-    }
-    let nodes = paper::opened(case, case.radius, case.budget).unwrap_or(u64::MAX);
-    Ok(Answer { report: Report::whole(0, nodes, list.len() as u64), integers, doubles })
+    let nodes = || paper::listed_nodes(case, case.budget).unwrap_or(u64::MAX);
+    let points = list.iter().map(|point| (point.distance_sq(), point.point()));
+    Ok(in_slices(case, nodes, points))
 }
 
-/// The plain reading beside a success of the Rust: where there is one, and how it differs.
+/// A list in the caller's slices, or 18.
+fn in_slices<'a>(
+    case: &Case,
+    nodes: impl FnOnce() -> u64,
+    points: impl ExactSizeIterator<Item = (f64, &'a [i64])>,
+) -> Answer {
+    let (n, count) = (case.weights.len(), points.len());
+    if count > case.places {
+        return Answer::untouched(case, Report::whole(18, count as u64, 0));
+    }
+    let (mut integers, mut doubles) = before(case);
+    for (k, (distance, point)) in points.enumerate() {
+        doubles[k] = distance.to_bits();
+        integers[k * n..(k + 1) * n].copy_from_slice(point);
+    }
+    Answer { report: Report::whole(0, nodes(), count as u64), integers, doubles }
+}
+
+/// The plain reading of a walk with running centres, of a case whose checks pass.
+fn run(case: &Case) -> Answer {
+    let Walked { nodes, radius, exhausted, found } = running(case, case.budget);
+    let real = radius.to_bits();
+    if exhausted {
+        return Answer::untouched(case, Report { number: 15, first: nodes, second: 0, real });
+    }
+    match (case.call, &found[..]) {
+        (Call::List, _) => in_slices(case, || nodes, found.iter().map(|(distance, z)| (*distance, &z[..]))),
+        (_, [(distance, z)]) => {
+            Answer { report: Report::found(nodes, *distance), integers: z.clone(), doubles: Vec::new() }
+        }
+        _ => Answer::untouched(case, Report::double(16, radius)),
+    }
+}
+
+/// The plain reading beside the Rust's answer: where there is one, and how it differs.
 fn second_reading(case: &Case, answer: &Answer) -> Option<String> {
     let same_distance = |point: &[i64]| {
         let distance = paper::distance(&case.weights, &case.mu, &case.target, point);
         distance.to_bits() == answer.report.real
     };
+    let found = answer.report.number == 0;
     let same = match case.call {
+        Call::Nearest | Call::List if runs(case) => {
+            run(case) == *answer && (!found || case.call == Call::Nearest || least_budget(case, answer.report.first))
+        }
+        _ if !found => true,
         Call::RoundAway | Call::Round => case.target.iter().map(|&x| paper::round_away(x)).eq(answer.integers.clone()),
         Call::Plane => {
             let mut left = case.target.clone();
@@ -161,8 +196,7 @@ fn second_reading(case: &Case, answer: &Answer) -> Option<String> {
         Call::Distance => same_distance(&case.candidate),
         Call::Nearest | Call::Seeded | Call::Ml => same_distance(&answer.integers),
         Call::Prepared => same_mapped(case, answer),
-        Call::List if answer.report.number == 0 => least_budget(case, answer.report.first),
-        _ => true,
+        Call::List => least_budget(case, answer.report.first),
     };
     (!same).then(|| format!("the plain reading differs from the Rust's {answer}"))
 }

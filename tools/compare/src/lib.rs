@@ -14,6 +14,7 @@ pub mod reach;
 pub mod rng;
 pub mod short;
 pub mod shrink;
+pub mod stack;
 pub mod tally;
 pub mod values;
 

@@ -1,5 +1,5 @@
 //! A point that `nearest` found beside the list of the same table, target and radius: the list's first distance is the
-//! point's, and the point stands in the list at that distance.
+//! point's, and the point stands in the list at that distance. Where the centres run, neither need be so.
 
 use crate::answer::Answer;
 use crate::case::{Call, Case};
@@ -15,10 +15,10 @@ pub struct Listed {
     pub remarks: Vec<String>,
 }
 
-/// `None` where no point was found by `nearest`, or where its list opens more than a few prefixes.
+/// `None` where no point was found by `nearest`, where its list opens more than a few prefixes, and where the centres run.
 #[must_use]
 pub fn listed(case: &Case, found: &Answer) -> Option<Listed> {
-    if case.call != Call::Nearest || found.report.number != 0 {
+    if case.call != Call::Nearest || found.report.number != 0 || paper::runs(case) {
         return None;
     }
     let budget = paper::opened(case, case.radius, FEW)?;

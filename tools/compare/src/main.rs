@@ -5,7 +5,7 @@ use compare::job::program::{Printed, Program};
 use compare::job::{self, Found};
 use compare::shrink::shrink;
 use compare::tally::Tally;
-use compare::{Comparison, Difference, compare, random, short};
+use compare::{Comparison, Difference, compare, paper, random, short};
 use std::process::ExitCode;
 use std::sync::atomic::{AtomicU64, Ordering};
 use std::time::Instant;
@@ -96,6 +96,9 @@ impl Run {
 
 fn print_case(case: &Case) {
     println!("{case}");
+    if paper::runs(case) {
+        println!("in short: {}", case.brief());
+    }
     if case.call == Call::List {
         println!("the points' length {}", case.points);
     }

@@ -1,5 +1,7 @@
-//! A plain reading of docs/SPECIFICATION.md: rounding, distance, seeds and opened prefixes, and the checks in order.
-//! Nothing here is taken from the port or from the Rust.
+//! A plain reading of docs/SPECIFICATION.md: rounding, distance, seeds and opened prefixes, the walk with running centres, and
+//! the checks in order. Nothing here is taken from the port or from the Rust.
+
+pub mod running;
 
 use crate::answer::Report;
 use crate::case::{Call, Case};
@@ -7,6 +9,8 @@ use crate::case::{Call, Case};
 /// 2^52, the largest magnitude of mu and of a target.
 pub const LIMIT: f64 = 4_503_599_627_370_496.0;
 pub const LARGEST_N: usize = 23;
+/// The most dimensions of `nearest` and `list`. Above 23 the centres of their walks run.
+pub const LARGEST_SEARCHED: usize = 64;
 pub const MOST_NODES: u64 = 1 << 60;
 pub const MOST_PLACES: usize = 4096;
 /// 2^52, the largest magnitude of a matrix's entry.
@@ -121,6 +125,23 @@ pub fn opened(case: &Case, radius: f64, cap: u64) -> Option<u64> {
     walk.below(n, 0.0).then_some(walk.count)
 }
 
+/// Whether the centres of the case's walk run.
+#[must_use]
+pub fn runs(case: &Case) -> bool {
+    case.weights.len() > LARGEST_N
+}
+
+/// How many nodes a list has at the case's radius, if at most `cap`: the opened prefixes or, where the centres run, those of
+/// its walk.
+#[must_use]
+pub fn listed_nodes(case: &Case, cap: u64) -> Option<u64> {
+    if !runs(case) {
+        return opened(case, case.radius, cap);
+    }
+    let list = Case { call: Call::List, ..case.clone() };
+    Some(running::running(&list, cap)).filter(|walked| !walked.exhausted).map(|walked| walked.nodes)
+}
+
 // ---- the checks
 
 /// The first of refusals 2 to 14, 22 and 23 that fits the case.
@@ -149,7 +170,7 @@ fn index(number: u32, place: Option<usize>) -> Option<Report> {
 /// 2 to 5. Only the entries below the diagonal are read.
 fn table(case: &Case) -> Option<Report> {
     let n = case.weights.len();
-    if n > LARGEST_N || case.mu.len() != n * n {
+    if n > case.call.largest() || case.mu.len() != n * n {
         return Some(Report::whole(2, n as u64, 0));
     }
     let first = |bad: fn(f64) -> bool| (0..n * n).find(|k| k / n > k % n && bad(case.mu[*k]));

@@ -174,11 +174,24 @@ fn call(case: &Case, slices: &mut Slices) -> Report {
     Report { number, first, second, real }
 }
 
+/// `nearest` without guards, for timing.
+pub fn nearest(case: &Case, out: &mut [i64]) -> Report {
+    let Case { weights: w, mu: m, target: t, radius, budget, .. } = case;
+    let (mut first, mut second, mut real) = (0, 0, 0.0);
+    // SAFETY: each pointer is to as many cells as its length says, and no two overlap.
+    #[rustfmt::skip]
+    let number = unsafe {
+        snowgimmer_nearest(w.as_ptr(), w.len(), m.as_ptr(), m.len(), t.as_ptr(), t.len(), out.as_mut_ptr(),
+            out.len(), *radius, *budget, &raw mut first, &raw mut second, &raw mut real)
+    };
+    Report { number, first, second, real: real.to_bits() }
+}
+
 /// `nearest_ml` without guards, for timing.
 pub fn nearest_ml(case: &Case, out: &mut [i64]) -> Report {
     let Case { weights: w, mu: m, target: t, budget, .. } = case;
     let (mut first, mut second, mut real) = (0, 0, 0.0);
-    // SAFETY: each pointer is to as many cells as its length says, and no two overlap.
+    // SAFETY: as above.
     #[rustfmt::skip]
     let number = unsafe {
         snowgimmer_nearest_ml(w.as_ptr(), w.len(), m.as_ptr(), m.len(), t.as_ptr(), t.len(), out.as_mut_ptr(),

@@ -1,9 +1,10 @@
 //! Random cases: each is fixed by the run's seed and its own number.
 
 mod prepared;
+mod running;
 
 use crate::case::{Call, Case};
-use crate::paper::{self, LARGEST_N, LIMIT, MOST_NODES, MOST_PLACES};
+use crate::paper::{self, LARGEST_N, LARGEST_SEARCHED, LIMIT, MOST_NODES, MOST_PLACES};
 use crate::reach::{points, reach};
 use crate::rng::Rng;
 use crate::values::{self, SMALLEST};
@@ -28,6 +29,7 @@ pub fn case(seed: u64, number: u64) -> Case {
     };
     let mut case = match call {
         Call::Prepared => prepared::case(rng),
+        Call::Nearest | Call::List if rng.once_in(4) => running::case(rng, call),
         _ if call.takes_table() => over_table(rng, call),
         _ => rounding(rng, call),
     };
@@ -194,7 +196,7 @@ fn fault(rng: &mut Rng, case: &mut Case) {
         10 => case.radius = bad_radius(rng),
         11 => case.budget = rng.pick(&BAD_BUDGETS),
         _ => match case.call {
-            Call::List => *case = case.clone().with_places(MOST_PLACES + 1 + rng.below(3)),
+            Call::List if rng.once_in(2) => *case = case.clone().with_places(MOST_PLACES + 1 + rng.below(3)),
             Call::RoundAway | Call::Round => case.places += 1,
             _ => large(rng, case),
         },
@@ -204,11 +206,16 @@ fn fault(rng: &mut Rng, case: &mut Case) {
     }
 }
 
-/// A table of the right shape and too many dimensions.
+/// A table of the right shape and with too many dimensions: for some calls, or for all.
 fn large(rng: &mut Rng, case: &mut Case) {
-    let n = LARGEST_N + 1 + rng.below(3);
+    let largest = rng.pick(&[LARGEST_N, case.call.largest(), LARGEST_SEARCHED]);
+    let n = largest + 1 + rng.below(3);
     case.weights.resize(n, 1.0);
     case.mu.resize(n * n, 0.0);
+    if rng.once_in(2) {
+        case.target.resize(n, 0.0);
+        *case = if case.call == Call::List { case.clone().with_places(n) } else { Case { places: n, ..case.clone() } };
+    }
 }
 
 fn other_length(rng: &mut Rng, len: usize) -> usize {

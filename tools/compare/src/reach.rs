@@ -23,12 +23,12 @@ pub fn reach(case: &Case, cap: u64) -> Option<u64> {
         Call::Ml => oracle::nearest_ml(&table, target, *places, cap),
         // Also where the point can't be mapped.
         Call::Prepared => oracle::nearest_ml(&table, &paper::transformed(case), *places, cap),
-        _ => return paper::opened(case, *radius, cap),
+        _ => return paper::listed_nodes(case, cap),
     };
     match found {
         Ok((_, nodes, _)) => Some(nodes),
         // Without a point the radius never shrinks: the walk opens what a list opens.
-        Err(DecodeError::OutsideRadius { .. }) => paper::opened(case, *radius, cap),
+        Err(DecodeError::OutsideRadius { .. }) => paper::listed_nodes(case, cap),
         Err(_) => None,
     }
 }

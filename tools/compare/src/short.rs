@@ -1,9 +1,11 @@
-//! Short cases, exhaustively around each boundary: every check's edge, and small grids at n = 0, 1 and 2.
+//! Short cases, exhaustively around each boundary: every check's edge, small grids at n = 0, 1 and 2, and from 24 dimensions
+//! on what the running centres come upon.
 
 mod prepared;
+pub mod running;
 
 use crate::case::{CALLS, Call, Case};
-use crate::paper::{self, LARGEST_N, LIMIT, MOST_NODES, MOST_PLACES};
+use crate::paper::{self, LARGEST_N, LARGEST_SEARCHED, LIMIT, MOST_NODES, MOST_PLACES};
 use crate::reach::{points, reach};
 use crate::values::SMALLEST;
 
@@ -27,6 +29,7 @@ pub fn cases(visit: Visit) {
     long_lists(visit);
     list_orders(visit);
     prepared::cases(visit);
+    running::cases(visit);
 }
 
 fn with_neighbours(values: &[f64]) -> Vec<f64> {
@@ -91,7 +94,7 @@ fn sound(call: Call, n: usize) -> Case {
 
 fn table_sizes(visit: Visit) {
     for call in table_calls() {
-        for n in (0..4).chain(LARGEST_N - 1..LARGEST_N + 4) {
+        for n in (0..4).chain(LARGEST_N - 1..LARGEST_N + 4).chain(LARGEST_SEARCHED - 1..LARGEST_SEARCHED + 3) {
             for entries in (n * n).saturating_sub(2)..n * n + 3 {
                 for wrong in [false, true] {
                     let mut case = sound(call, n);

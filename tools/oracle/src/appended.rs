@@ -21,7 +21,43 @@ impl<T: Int> Enumerator<T> {
     pub fn triangular_distance(&self, target: &[f64], point: &[i64]) -> Result<f64, DecodeError> {
         triangular_distance(&self.mu, &self.weights, target, point)
     }
+
+    /// The radius that stands when the walk of `nearest` has ended, where that is `Search`, which is private: what the walk
+    /// itself has as its point's distance.
+    ///
+    /// # Errors
+    ///
+    /// As `nearest`; target and radius must pass its checks.
+    pub fn standing_radius(
+        &self,
+        target: &[f64],
+        radius_sq: f64,
+        node_budget: u64,
+        scratch: &mut EnumerationScratch,
+    ) -> Result<f64, DecodeError> {
+        let n = self.dim();
+        scratch.reserve(n);
+        let mut search = Search {
+            mu: &self.mu,
+            weights: &self.weights,
+            target,
+            point: &mut scratch.point[..n],
+            best: &mut scratch.best[..n],
+            centers: &mut scratch.centers[..n],
+            partials: &mut scratch.partials[..n],
+            children: &mut scratch.children[..n],
+            radius_sq,
+            node_budget,
+            nodes: 0,
+            found: false,
+        };
+        search.run()?;
+        if search.found { Ok(search.radius_sq) } else { Err(DecodeError::OutsideRadius { radius_sq }) }
+    }
 }
+
+/// The first dimension whose searches are `Search` and `ListSearch`, with running centres.
+pub const FIRST_RUNNING: usize = ITERATIVE_DIMENSION;
 
 impl<T: Int> PreparedEnumerator<T> {
     /// The search over a table and two matrices that are handed in, in the place of what `new` gets by reduction.

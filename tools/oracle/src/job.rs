@@ -6,10 +6,9 @@
 //! refusals 3, 4, 5, 9 and 18, which refusal comes first, the ratio and the text. A job can't meet the others: by its
 //! layout its table has the right size and its target the right length, and the program lends the list right slices.
 
-use crate::Enumerator;
 use crate::error::DecodeError;
+use crate::{Enumerator, LARGEST_DIMENSION};
 
-const LARGEST_DIMENSION: usize = 23;
 const LARGEST_BUDGET: u64 = 1 << 60;
 /// 2^52
 const LARGEST_ENTRY: f64 = 4_503_599_627_370_496.0;

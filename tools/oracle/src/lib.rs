@@ -16,6 +16,11 @@ pub use lines::answer;
 
 use error::DecodeError;
 
+/// The most dimensions of a table.
+pub const LARGEST_DIMENSION: usize = 23;
+/// The most dimensions of the table of `nearest` and `list`.
+pub const LARGEST_SEARCHED: usize = 64;
+
 /// A search over a table: n weights, and n·n entries mu.
 pub type Enumerator = enumerate::Enumerator<i64>;
 
@@ -45,7 +50,24 @@ fn found(table: &Enumerator, target: &[f64], point: Vec<i64>, nodes: u64) -> Fou
 pub fn nearest(table: &Enumerator, target: &[f64], places: usize, radius: f64, budget: u64) -> Found {
     let mut out = vec![0; places];
     let nodes = table.nearest(target, &mut out, radius, budget, &mut enumerate::EnumerationScratch::new())?;
-    found(table, target, out, nodes)
+    let distance = nearest_distance(table, target, &out, radius, budget)?;
+    Ok((out, nodes, distance))
+}
+
+/// The distance of the point that `nearest` found so: what `triangular_distance` gives it. Where the centres run, it is the
+/// radius that stands at the walk's end, and `triangular_distance` may give another.
+pub fn nearest_distance(
+    table: &Enumerator,
+    target: &[f64],
+    point: &[i64],
+    radius: f64,
+    budget: u64,
+) -> Result<f64, DecodeError> {
+    if table.dim() < enumerate::FIRST_RUNNING {
+        table.triangular_distance(target, point)
+    } else {
+        table.standing_radius(target, radius, budget, &mut enumerate::EnumerationScratch::new())
+    }
 }
 
 /// `nearest_seeded` with an output of the given length.

@@ -1,7 +1,7 @@
 //! The command's lines: README.md has their format.
 
 use crate::error::DecodeError;
-use crate::{Enumerator, Found};
+use crate::{Enumerator, Found, LARGEST_DIMENSION, LARGEST_SEARCHED};
 
 /// The answer to one case, or what is wrong with its line.
 #[must_use]
@@ -26,7 +26,12 @@ fn case(line: &str) -> Result<String, String> {
     let Some((call, fields)) = fields.split_first() else {
         return Err("line: fewer than 8 fields".into());
     };
-    called(call, &Case::read(fields)?)
+    called(call, &Case::read(fields, largest(call))?)
+}
+
+/// The most dimensions of a call's table.
+fn largest(call: &str) -> usize {
+    if matches!(call, "nearest" | "list") { LARGEST_SEARCHED } else { LARGEST_DIMENSION }
 }
 
 fn called(call: &str, case: &Case) -> Result<String, String> {
@@ -65,15 +70,15 @@ fn called(call: &str, case: &Case) -> Result<String, String> {
 // ---- reading
 
 impl Case {
-    fn read(fields: &[&str]) -> Result<Self, String> {
+    fn read(fields: &[&str], largest: usize) -> Result<Self, String> {
         let [n, weights, mu, target, radius, budget, candidate, rest @ ..] = fields else {
             return Err("line: fewer than 8 fields".into());
         };
         let n: usize = decimal("n", n)?;
         let weights = items("weights", weights, double)?;
         let mu = items("mu", mu, double)?;
-        if n > 23 || weights.len() != n || mu.len() != n * n {
-            return Err("table: n above 23, or not n weights and n·n entries".into());
+        if n > largest || weights.len() != n || mu.len() != n * n {
+            return Err(format!("table: n above {largest}, or not n weights and n·n entries"));
         }
         let matrix = |name, text| {
             let entries = items(name, text, decimal::<i64>)?;

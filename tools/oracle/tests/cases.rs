@@ -1,4 +1,4 @@
-//! The specification's bench cases A to L, the prepared search, and the texts of jobs. L's budget of 2^60 + 1 is left
+//! The specification's bench cases A to L, the prepared search, running centres, and the texts of jobs. L's budget of 2^60 + 1 is left
 //! out: the original does not have refusal 9.
 
 use oracle::error::DecodeError::{
@@ -159,6 +159,71 @@ fn prepared_lines() {
     let far = |factor: i64| oracle::answer(&format!("{far} {zero} 9 - 2 1,{factor},0,1 1,{},0,1", -factor));
     assert_eq!(far(-1 << 13), format!("found 2 3fb0000000000000 [ {} {} ]", 1_i64 << 50, i64::MIN));
     assert_eq!(far(1 << 13), "Range()");
+}
+
+// ---- running centres
+
+/// n dimensions with weights 1, these entries mu and these targets, the others 0; what is not read of mu is a NaN.
+fn wide(n: usize, entries: &[(usize, f64)], targets: &[(usize, f64)]) -> (Enumerator, Vec<f64>) {
+    let mut mu: Vec<f64> = (0..n * n).map(|k| if k / n > k % n { 0.0 } else { f64::NAN }).collect();
+    let mut target = vec![0.0; n];
+    entries.iter().for_each(|(k, x)| mu[*k] = *x);
+    targets.iter().for_each(|(k, x)| target[*k] = *x);
+    (Enumerator::from_table(&vec![1.0; n], &mu), target)
+}
+
+/// A vector of n integers, 0 but for these.
+fn point(n: usize, coordinates: &[(usize, i64)]) -> Vec<i64> {
+    let mut point = vec![0; n];
+    coordinates.iter().for_each(|(k, z)| point[*k] = *z);
+    point
+}
+
+/// 0.3 is lost in the first centre, 0.1·2^40, and what is left of it is another number: by `center` it would be 0.3.
+#[test]
+fn running_centres() {
+    let (table, target) = wide(24, &[(24, 0.1)], &[(0, 0.3), (1, 2f64.powi(40))]);
+    refused(nearest(&table, &target, 24, 0.09, 100), OutsideRadius { radius_sq: 0.09 });
+    is(list(&table, &target, 0.09, 100), (vec![], 23));
+    refused(list(&table, &target, 0.09, 22), BudgetExhausted { nodes: 22, radius_sq: 0.09 });
+    let near = point(24, &[(1, 1 << 40)]);
+    is(table.triangular_distance(&target, &near), 0.09);
+    // The distance of a point is the walk's.
+    let left = (0.3 + 0.1 * 2f64.powi(40)) - 0.1 * 2f64.powi(40);
+    assert_ne!(left, 0.3);
+    is(nearest(&table, &target, 24, 0.25, 100), (near.clone(), 24, left * left));
+    is(list(&table, &target, 0.25, 100), (vec![(left * left, near)], 24));
+    // One dimension less, and the centre is made anew.
+    let (table, target) = wide(23, &[(23, 0.1)], &[(0, 0.3), (1, 2f64.powi(40))]);
+    is(nearest(&table, &target, 23, 0.09, 100), (point(23, &[(1, 1 << 40)]), 23, 0.09));
+}
+
+/// The lines take 64 dimensions of `nearest` and `list`, and 23 of the others.
+#[test]
+fn running_lines() {
+    let line = |call: &str, n: usize| {
+        let items = |count: usize, item: &str| vec![item; count].join(",");
+        let (one, zero) = ("3ff0000000000000", "0000000000000000");
+        oracle::answer(&format!(
+            "{call} {n} {} {} {} {zero} 100 {}",
+            items(n, one),
+            items(n * n, zero),
+            items(n, one),
+            items(n, "1")
+        ))
+    };
+    let ones = |n: usize| format!("[{} ]", " 1".repeat(n));
+    for n in [23, 24, 64] {
+        assert_eq!(line("nearest", n), format!("found {n} 0000000000000000 {}", ones(n)));
+        assert_eq!(line("list", n), format!("listed {n} 1 0000000000000000 {}", ones(n)));
+    }
+    for call in ["nearest", "list"] {
+        assert_eq!(line(call, 65), "malformed table: n above 64, or not n weights and n·n entries");
+    }
+    assert_eq!(line("triangular_distance", 23), "distance 0000000000000000");
+    for call in ["nearest_seeded", "nearest_ml", "nearest_plane", "triangular_distance"] {
+        assert_eq!(line(call, 24), "malformed table: n above 23, or not n weights and n·n entries");
+    }
 }
 
 // ---- lines and jobs

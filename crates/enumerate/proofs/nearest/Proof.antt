@@ -1,7 +1,7 @@
 -- `nearest` meets its contract: a refusal of its checks leaves out, and after a pass it ends as its walk does. Assumes nothing.
 use mathlib.Core.Path.{_≡_, ap, sym, _∙_}
 use lib.Ieee.{Float}
-use Rattle.definitions.specs.Table.{table, largestDimension}
+use Rattle.definitions.specs.Table.{table, largestSearched}
 use Rattle.definitions.specs.Calls.{nearestWithin, nearestChecks}
 use Rattle.definitions.proofs.Passed.{nearest-passed, walk-shaped}
 use Rattle.definitions.proofs.Answers.{nearest-checks-are, nearest-refused, nearest-checked}
@@ -14,7 +14,7 @@ use Rattle.enumerate.proofs.nearest.Tie as tie
 -- the verdict is that of the definition
 checks-are : (c : tie.After-nearest-check) →
     let a = c .before .before .before .before .before .args in
-    nearestChecks largestDimension (table (a .weights .now) (a .mu .now)) (a .target .now) (a .out .now) (a .radius) (a .budget) ≡ verdict (c .nearest-check .result)
+    nearestChecks largestSearched (table (a .weights .now) (a .mu .now)) (a .target .now) (a .out .now) (a .radius) (a .budget) ≡ verdict (c .nearest-check .result)
 checks-are c =
     let a = c .before .before .before .before .before .args in
     nearest-checks-are (table (a .weights .now) (a .mu .now)) (a .target .now) (a .out .now) (a .radius) (a .budget) ∙ sym (c .nearest-check .ensures)
@@ -31,7 +31,7 @@ nearest-within-requires c κs =
     let told = c .before .before in
     let at = told .before .before in
     let a = at .before .before .before .before .before .args in
-    let p = nearest-passed largestDimension (table (a .weights .now) (a .mu .now)) (a .target .now) (a .out .now) (a .radius) (a .budget) (checks-are at ∙ ap verdict (told .enum-told .given .1)) in
+    let p = nearest-passed largestSearched (table (a .weights .now) (a .mu .now)) (a .target .now) (a .out .now) (a .radius) (a .budget) (checks-are at ∙ ap verdict (told .enum-told .given .1)) in
     walk-shaped (p .search) (a .budget) (p .few)
 
 returns-2 : tie.Need-returns-2

@@ -1,4 +1,4 @@
--- `list` meets its contract: a refusal of its checks leaves both slices, and a pass goes on to arrays of one of three sizes. Assumes nothing.
+-- `list` meets its contract: a refusal of its checks leaves both slices, and a pass goes on to short arrays or to large ones. Assumes nothing.
 use mathlib.Core.Path.{_≡_, refl, ap, sym, _∙_}
 use mathlib.Core.List.{List}
 use Prim.Native.Nat.{ℕ, _*_, _≤_}
@@ -6,7 +6,7 @@ use lib.ListN.{length}
 use lib.IntN.{ℤ}
 use lib.Ieee.{Float}
 use borrow.Author.Needs.{needs}
-use Rattle.definitions.specs.Table.{Table, table, largestDimension, largestList}
+use Rattle.definitions.specs.Table.{Table, table, largestSearched, largestList}
 use Rattle.definitions.specs.Checks.{pass}
 use Rattle.definitions.specs.Calls as C
 use Rattle.definitions.proofs.Passed.{list-passed}
@@ -14,7 +14,6 @@ use Rattle.definitions.proofs.Answers.{list-checks-are, list-refused}
 use Rattle.refusals.specs.Numbers.{verdict, numbered}
 use Rattle.listing.specs.Ready.{ListFits}
 use Rattle.listing.specs.Sizes.{shortList}
-use Rattle.listing.proofs.Buffers.{points-fit}
 use Rattle.listing.proofs.Endings.{answer-refused}
 use Rattle.listing.proofs.list.Statement.{statement}
 use Rattle.listing.proofs.list.Tie as tie
@@ -34,14 +33,14 @@ module _ (c : tie.After-enum-told) where
   abbrev t : Table
   t = table (entry .args .weights .now) (entry .args .mu .now)
 
-  passed : C.listChecks largestDimension t (entry .args .target .now) own coordinates (entry .args .radius) (entry .args .budget) ≡ pass
+  passed : C.listChecks largestSearched t (entry .args .target .now) own coordinates (entry .args .radius) (entry .args .budget) ≡ pass
   passed = list-checks-are t (entry .args .target .now) own coordinates (entry .args .radius) (entry .args .budget) ∙ sym (c .before .before .list-check .ensures) ∙ ap verdict (c .enum-told .given .1)
 
   few : length own ≤ largestList
-  few = list-passed largestDimension t (entry .args .target .now) own coordinates (entry .args .radius) (entry .args .budget) passed .places
+  few = list-passed largestSearched t (entry .args .target .now) own coordinates (entry .args .radius) (entry .args .budget) passed .places
 
-  fits : (places : ℕ) → length own ≤ places → ListFits t (entry .args .target .now) own coordinates (entry .args .radius) (entry .args .budget) places (places * largestDimension)
-  fits places h = record { passed = passed; places-fit = h; points-fit = points-fit places t (entry .args .target .now) own coordinates (entry .args .radius) (entry .args .budget) passed h }
+  fits : (places : ℕ) → length own ≤ places → ListFits t (entry .args .target .now) own coordinates (entry .args .radius) (entry .args .budget) places
+  fits places h = record { passed = passed; places-fit = h }
 
 returns : tie.Need-returns
 returns c =
@@ -53,22 +52,16 @@ returns c =
     answer-refused (C.list t (a .target .now) (a .distances .now) (a .points .now) (a .radius) (a .budget)) _ (a .distances .now) (a .points .now) (numbered e) refl q
 
 list-short-requires : tie.Need-list-short-requires
-list-short-requires c κs = fits (c .before .before .before) shortList (c .before .before .if1 .taken)
+list-short-requires c κs = fits (c .before .before .before .before) shortList (c .before .before .before .if1 .taken)
 
 returns-2 : tie.Need-returns-2
 returns-2 c = c .before .before .before .list-short .ensures
 
-list-middle-requires : tie.Need-list-middle-requires
-list-middle-requires c κs = let h = c .before .before .before .before in record { passed = passed h; places-fit = few h; points-fit = c .before .before .if2 .taken }
+list-large-requires : tie.Need-list-large-requires
+list-large-requires c κs = let h = c .before .before .before in fits h largestList (few h)
 
 returns-3 : tie.Need-returns-3
-returns-3 c = c .before .before .before .list-middle .ensures
-
-list-long-requires : tie.Need-list-long-requires
-list-long-requires c κs = let h = c .before .before .before .before in fits h largestList (few h)
-
-returns-4 : tie.Need-returns-4
-returns-4 c = c .before .before .before .list-long .ensures
+returns-3 c = c .before .before .before .list-large .ensures
 
 pub list-spec : {M : Type 1} → statement M
 list-spec =
@@ -84,11 +77,7 @@ list-spec =
     (λ c. search needs)
     (λ c. search needs)
     returns-2
-    list-middle-requires
+    list-large-requires
     (λ c. search needs)
     (λ c. search needs)
-    returns-3
-    list-long-requires
-    (λ c. search needs)
-    (λ c. search needs)
-    returns-4)
+    returns-3)

@@ -6,7 +6,7 @@ use Rattle.listing.proofs.list_short.Tie as tie
 list-within-requires : tie.Need-list-within-requires
 list-within-requires c κs =
     let p = c .before .before .before .before .before .before .before .before .before .before .pre in
-    record { passed = p .passed; measured-fits = p .places-fit; vectors-fits = p .points-fit; order-fits = p .places-fit; spare-fits = p .places-fit }
+    record { passed = p .passed; measured-fits = p .places-fit; order-fits = p .places-fit; spare-fits = p .places-fit }
 
 pub list-short-spec : {M : Type 1} → statement M
 list-short-spec =

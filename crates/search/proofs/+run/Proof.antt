@@ -1,4 +1,4 @@
--- `run` walks as the definition does. It children-end by its depth, and its loop by what the budget leaves. The loop keeps `ChildReady`; each exit and each turn is a law of
+-- `run` walks as the definition does. It ends by its depth, and its loop by what the budget leaves. The loop keeps `ChildReady`; each exit and each turn is a law of
 -- `States` or `Loop`, at what is known where it stands. Assumes nothing.
 use mathlib.Core.Path.{_≡_, ap, sym, _∙_}
 use mathlib.Core.Bool.{Bool, cond}

@@ -28,7 +28,7 @@ returns-2 c =
 
 returns-3 : tie.Need-returns-3
 returns-3 c =
-    let i = c .before .before .before .before .before .before in
+    let i = c .before .before .before .before .before .before .before .before in
     let m = i .before .before in
     let a = start m .args in
     let better = tied (a .n) (a .t1) (a .distance) (a .found .now) (some m) (i .before .if2 .left) true (i .if3 .taken) (sym (c .before .before .before2 .ensures) ∙ c .before .if4 .taken) in
@@ -36,7 +36,7 @@ returns-3 c =
 
 returns-4 : tie.Need-returns-4
 returns-4 c =
-    let i = c .before .before .before .before .before in
+    let i = c .before .before .before .before .before .before .before in
     let m = i .before .before in
     let a = start m .args in
     stayed (a .n) (a .t1) (a .distance) (a .found .now) (tied (a .n) (a .t1) (a .distance) (a .found .now) (some m) (i .before .if2 .left) false (i .if3 .taken) (sym (c .before .before2 .ensures) ∙ c .if4 .left))

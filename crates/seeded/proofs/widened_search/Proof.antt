@@ -1,5 +1,7 @@
 -- `widened_search` meets its contract: it is the search of `nearest`, at the widened radius. Assumes nothing.
 use mathlib.Core.Path.{ap, sym, _∙_}
+use native.Mathlib.Nat.{le-trans}
+use lib.Dec.{lit≤}
 use lib.Ieee.{Float}
 use Rattle.definitions.specs.Table.{table}
 use Rattle.definitions.specs.Calls.{nearestWithin}
@@ -20,7 +22,13 @@ returns c =
     ∙ sym (widened-search-is t (a .target .now) (a .radius) (a .budget)))
     (ran .nearest-within .ensures)
 
+-- a table that is searched up to 23 is one up to 64
+nearest-within-requires : tie.Need-nearest-within-requires
+nearest-within-requires c κs =
+    let p = c .before .before .before .before .before .pre in
+    record { shape = record { shape = record { small = le-trans (p .shape .shape .small) (lit≤ tt); square = p .shape .shape .square; target-length = p .shape .shape .target-length }; output-length = p .shape .output-length }; bounded = p .bounded }
+
 pub widened-search-spec : {M : Type 1} → statement M
 widened-search-spec =
     tie.close
-    (tie.spec (λ c κs. search needs) (λ c κs. search needs) (λ c. search needs) returns)
+    (tie.spec (λ c κs. search needs) nearest-within-requires (λ c. search needs) returns)

@@ -5,8 +5,10 @@ use Rattle.lists.proofs.Tuples.{sixth}
 use Rattle.definitions.specs.Table.{table}
 use Rattle.definitions.specs.Calls as C
 use Rattle.theorems.specs.Promises.{ListPromises}
+use Rattle.theorems.specs.Running.{ListRunning}
 use Rattle.theorems.proofs.Checked.{doubles-in}
 use Rattle.theorems.proofs.Promises.{list-promises}
+use Rattle.theorems.proofs.RunningCalls.{list-running}
 use Rattle.listing.specs.View.{countsOf}
 use Rattle.snowgimmer.specs.Reports.{ofCounts}
 use Rattle.snowgimmer.proofs.Slices.{held-in}
@@ -34,6 +36,7 @@ returns c =
       writes-distances = answered .writes-distances;
       writes-points = answered .writes-points;
       promises = held-in (ListPromises t (a .target .now) (a .distances .now) (a .points .now) (a .radius) (a .budget) answer) (answered .writes-distances) (answered .writes-points) promised;
+      running = held-in (ListRunning t (a .target .now) (a .distances .now) (a .points .now) (a .radius) (a .budget) answer) (answered .writes-distances) (answered .writes-points) (list-running t (a .target .now) (a .distances .now) (a .points .now) (a .radius) (a .budget) doubles (held (sixth (s .good) .1)));
     }
 
 pub snowgimmer-list-spec : {M : Type 1} → statement M

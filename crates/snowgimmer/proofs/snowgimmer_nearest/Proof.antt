@@ -4,11 +4,13 @@ use mathlib.Core.List.{List}
 use lib.IntN.{ℤ}
 use Rattle.rounding.proofs.Interface.{held}
 use Rattle.lists.proofs.Tuples.{fifth}
-use Rattle.definitions.specs.Table.{table}
+use Rattle.definitions.specs.Table.{table, largestSearched}
 use Rattle.definitions.specs.Calls as C
 use Rattle.theorems.specs.Promises.{NearestPromises}
+use Rattle.theorems.specs.Running.{NearestRunning}
 use Rattle.theorems.proofs.Checked.{doubles-in}
 use Rattle.theorems.proofs.Promises.{nearest-promises}
+use Rattle.theorems.proofs.RunningCalls.{nearest-running}
 use Rattle.snowgimmer.specs.Reports.{ofNearest}
 use Rattle.snowgimmer.proofs.DistanceAgrees.{distance-agrees}
 use Rattle.snowgimmer.proofs.ToldAs.{answer-told}
@@ -33,7 +35,8 @@ returns c =
       told-as = answer-told ofNearest tells (λ x. refl) (λ e. refl);
       writes = answered .writes;
       promises = promises;
-      distance-agrees = distance-agrees _ (promises .search);
+      distance-agrees = distance-agrees largestSearched _ (promises .search);
+      running = subst (λ (o : List ℤ). NearestRunning t (a .target .now) (a .out .now) (a .radius) (a .budget) (C.nearest t (a .target .now) (a .out .now) (a .radius) (a .budget)) o) (sym (answered .writes)) (nearest-running t (a .target .now) (a .out .now) (a .radius) (a .budget) doubles (held (fifth (s .good) .1)));
     }
 
 pub snowgimmer-nearest-spec : {M : Type 1} → statement M

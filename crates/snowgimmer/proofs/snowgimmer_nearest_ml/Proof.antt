@@ -2,7 +2,7 @@
 use mathlib.Core.Path.{refl, ap, sym, _∙_, subst}
 use mathlib.Core.List.{List}
 use lib.IntN.{ℤ}
-use Rattle.definitions.specs.Table.{table}
+use Rattle.definitions.specs.Table.{table, largestDimension}
 use Rattle.definitions.specs.Calls as C
 use Rattle.theorems.specs.Promises.{MlPromises}
 use Rattle.theorems.proofs.Checked.{doubles-in}
@@ -31,7 +31,7 @@ returns c =
       told-as = answer-told ofNearest tells (λ x. refl) (λ e. refl);
       writes = answered .writes;
       promises = promises;
-      distance-agrees = distance-agrees _ (promises .search);
+      distance-agrees = distance-agrees largestDimension _ (promises .search);
     }
 
 pub snowgimmer-nearest-ml-spec : {M : Type 1} → statement M

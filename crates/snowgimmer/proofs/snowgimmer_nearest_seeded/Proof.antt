@@ -4,7 +4,7 @@ use mathlib.Core.List.{List}
 use lib.IntN.{ℤ}
 use Rattle.rounding.proofs.Interface.{held}
 use Rattle.lists.proofs.Tuples.{sixth}
-use Rattle.definitions.specs.Table.{table}
+use Rattle.definitions.specs.Table.{table, largestDimension}
 use Rattle.definitions.specs.Calls as C
 use Rattle.theorems.specs.Promises.{SeededPromises}
 use Rattle.theorems.proofs.Checked.{doubles-in}
@@ -34,7 +34,7 @@ returns c =
       told-as = answer-told ofNearest tells (λ x. refl) (λ e. refl);
       writes = answered .writes;
       promises = promises;
-      distance-agrees = distance-agrees _ (promises .search);
+      distance-agrees = distance-agrees largestDimension _ (promises .search);
     }
 
 pub snowgimmer-nearest-seeded-spec : {M : Type 1} → statement M

@@ -20,8 +20,8 @@ returns c =
     record {
       tells = told;
       promises = promised;
-      numbers = λ p q t target lent points budget doubles same.
-          let means = promised .of-list p q t target lent points budget doubles same .means in
+      numbers = λ p q t target lent points budget doubles promise same.
+          let means = promised .of-list p q t target lent points budget doubles promise same .means in
           record {
             none = verdict-told told (promised .refuses) none (means none);
             holds = verdict-told told (promised .refuses) holds (means holds);

@@ -1,12 +1,14 @@
 //! The port's speed beside the Rust's: the same inputs, in turns, in one run. Prints a markdown table.
 //!
-//! `speed SIDE N PASSES` calls one side alone, `rust` or `port`, so often on the first input of `nearest_ml` at n = N, and
-//! prints the nodes: for a program that counts instructions, by the difference of two runs.
+//! `speed SIDE N PASSES` calls one side alone, `rust` or `port`, so often on the first input of `nearest_ml` at n = N, from
+//! n = 24 on of `nearest`, and prints the nodes: for a program that counts instructions, by the difference of two runs.
+//! `speed running` prints the rows from n = 24 on alone.
 
 use compare::case::{Call, Case};
 use compare::matrices::Pair;
 use compare::rng::Rng;
-use compare::{compare, port};
+use compare::short::running::PRIVATE;
+use compare::{compare, paper, port};
 use oracle::Enumerator;
 use oracle::enumerate::{EnumerationScratch, PreparedEnumerationScratch, PreparedEnumerator};
 use oracle::int::IntMatrix;
@@ -39,6 +41,23 @@ fn input(call: Call, n: usize, number: u64) -> Input {
     let weights: Vec<f64> = (0..n).map(|i| fall.powi(i as i32) * rng.uniform(0.8, 1.25)).collect();
     let mu: Vec<f64> = (0..n * n).map(|k| if k / n > k % n { rng.uniform(-0.5, 0.5) } else { 0.0 }).collect();
     let target: Vec<f64> = (0..n).map(|_| rng.uniform(-100.0, 100.0)).collect();
+    let table = Enumerator::from_table(&weights, &mu);
+    Input { case: Case::new(call, &weights, &mu, &target, 0.0, AMPLE), table }
+}
+
+/// Weights that fall over so many orders of magnitude, mu uniform, and a target near a vector of integers: what is left of
+/// each level's centre is uniform up to `residual`. With so many levels other targets lead to walks without end.
+fn near_integers(call: Call, n: usize, number: u64, orders: f64, residual: f64) -> Input {
+    let rng = &mut Rng::of_case(200 + n as u64, number);
+    let fall = 10f64.powf(-orders / (n - 1) as f64);
+    let weights: Vec<f64> = (0..n).map(|i| fall.powi(i as i32) * rng.uniform(0.8, 1.25)).collect();
+    let mu: Vec<f64> = (0..n * n).map(|k| if k / n > k % n { rng.uniform(-0.5, 0.5) } else { 0.0 }).collect();
+    let mut left = vec![0.0; n];
+    for i in (0..n).rev() {
+        let above: f64 = (i + 1..n).map(|j| mu[j * n + i] * left[j]).sum();
+        left[i] = rng.uniform(-residual, residual) - above;
+    }
+    let target: Vec<f64> = left.iter().map(|x| rng.uniform(-100.0, 100.0).round() + x).collect();
     let table = Enumerator::from_table(&weights, &mu);
     Input { case: Case::new(call, &weights, &mu, &target, 0.0, AMPLE), table }
 }
@@ -121,6 +140,33 @@ fn time_ml(n: usize) {
     print(&format!("nearest_ml, n = {n}, ns a node"), inputs.len(), &size, nodes as f64, times);
 }
 
+// ---- nearest
+
+/// The radius is a little more than the distance of the nearest-plane point.
+fn running(n: usize, residual: f64, number: u64) -> Input {
+    let mut input = near_integers(Call::Nearest, n, number, 1.0, residual);
+    let Case { weights, mu, target, .. } = &input.case;
+    let seed = paper::plane(mu, &mut target.clone());
+    input.case.radius = 1.001 * paper::distance(weights, mu, target, &seed);
+    input
+}
+
+fn rust_nearest(input: &Input, out: &mut [i64], scratch: &mut EnumerationScratch) -> u64 {
+    input.table.nearest(&input.case.target, out, input.case.radius, AMPLE, scratch).unwrap()
+}
+
+fn time_nearest(n: usize, residual: f64) {
+    let scratch = &mut EnumerationScratch::new();
+    let (mut out, mut other) = (vec![0; n], vec![0; n]);
+    let (inputs, nodes) = inputs(|k| running(n, residual, k), |i| rust_nearest(i, &mut out, scratch));
+    inputs.iter().for_each(|i| assert_same(&i.case));
+    let mut rust = || inputs.iter().map(|i| rust_nearest(i, &mut out, scratch)).sum();
+    let mut port = || inputs.iter().map(|i| port::nearest(&i.case, &mut other).first).sum();
+    let times = in_turns(nodes, [&mut rust, &mut port]);
+    let size = format!("{} nodes a call", nodes / inputs.len() as u64);
+    print(&format!("nearest, n = {n}, ns a node"), inputs.len(), &size, nodes as f64, times);
+}
+
 // ---- prepared_nearest_ml
 
 /// An input with matrices, and the search that the Rust prepares once.
@@ -185,9 +231,9 @@ fn rust_list(input: &Input, radius: f64, scratch: &mut EnumerationScratch) -> us
     input.table.list(&input.case.target, radius, AMPLE, scratch).unwrap().len()
 }
 
-/// The radius at which the Rust lists `points`, or as near as a bisection comes.
-fn radius_of(input: &Input, points: usize, scratch: &mut EnumerationScratch) -> f64 {
-    let (mut low, mut high) = (0.0, input.case.weights.iter().sum::<f64>() / 16.0);
+/// The radius at which the Rust lists `points`, or as near as a bisection comes; it starts from one that is not larger.
+fn radius_of(input: &Input, points: usize, start: f64, scratch: &mut EnumerationScratch) -> f64 {
+    let (mut low, mut high) = (0.0, start);
     // Small steps: a ball twice as wide has thousands of times the points.
     while rust_list(input, high, scratch) < points {
         (low, high) = (high, high * 1.15);
@@ -203,17 +249,24 @@ fn radius_of(input: &Input, points: usize, scratch: &mut EnumerationScratch) -> 
     high
 }
 
+/// Up to 23 dimensions the inputs are those of `nearest_ml`; above them targets are near integers, and weights do not fall.
+fn list_input(n: usize, number: u64, points: usize, scratch: &mut EnumerationScratch) -> Input {
+    let small = n <= paper::LARGEST_N;
+    let mut input = if small { input(Call::List, n, number) } else { near_integers(Call::List, n, number, 0.0, 0.2) };
+    let start = if small { input.case.weights.iter().sum::<f64>() / 16.0 } else { 0.3 };
+    input.case.radius = radius_of(&input, points, start, scratch);
+    input
+}
+
 fn time_list(n: usize, points: usize, places: usize) {
     let scratch = &mut EnumerationScratch::new();
-    let mut inputs: Vec<Input> = (0..10).map(|k| input(Call::List, n, k)).collect();
+    let mut inputs: Vec<Input> = (0..10).map(|k| list_input(n, k, points, scratch)).collect();
     for input in &mut inputs {
-        input.case.radius = radius_of(input, points, scratch);
         input.case = input.case.clone().with_places(places);
         assert_same(&input.case);
     }
     let (mut distances, mut integers) = (vec![0.0; places], vec![0; places * n]);
-    let nodes = |i: &Input| compare::paper::opened(&i.case, i.case.radius, AMPLE).unwrap();
-    let opened: u64 = inputs.iter().map(nodes).sum();
+    let opened: u64 = inputs.iter().map(|i| paper::listed_nodes(&i.case, AMPLE).unwrap()).sum();
     let mut rust = || inputs.iter().map(|i| rust_list(i, i.case.radius, scratch) as u64).sum();
     let found = rust();
     let mut port = || inputs.iter().map(|i| port::list(&i.case, &mut distances, &mut integers).second).sum();
@@ -226,32 +279,72 @@ fn time_list(n: usize, points: usize, places: usize) {
 // ---- one side alone
 
 fn passes(side: &str, n: usize, passes: u64) -> u64 {
-    let (input, scratch, mut out) = (input(Call::Ml, n, 0), &mut EnumerationScratch::new(), vec![0; n]);
-    let mut pass = || match side {
-        "rust" => rust_ml(&input, &mut out, scratch),
-        _ => port::nearest_ml(&input.case, &mut out).first,
+    let small = n <= paper::LARGEST_N;
+    let input = if small { input(Call::Ml, n, 0) } else { running(n, residual(n), 0) };
+    let (scratch, mut out) = (&mut EnumerationScratch::new(), vec![0; n]);
+    let mut pass = || match (side, small) {
+        ("rust", true) => rust_ml(&input, &mut out, scratch),
+        ("rust", false) => rust_nearest(&input, &mut out, scratch),
+        (_, true) => port::nearest_ml(&input.case, &mut out).first,
+        (_, false) => port::nearest(&input.case, &mut out).first,
     };
     (0..passes).map(|_| black_box(pass())).sum()
+}
+
+/// What is left of the centres where walks have some thousands of nodes: less, the more levels there are.
+fn residual(n: usize) -> f64 {
+    match n {
+        ..32 => 0.45,
+        32..48 => 0.35,
+        48..64 => 0.25,
+        _ => 0.2,
+    }
 }
 
 fn main() {
     let words: Vec<String> = std::env::args().skip(1).collect();
     let word = |k: usize| words.get(k).map_or("", String::as_str);
     match (word(0), word(1).parse(), word(2).parse()) {
-        (side @ ("rust" | "port"), Ok(n @ 2..=23), Ok(count)) if words.len() == 3 => {
+        (side @ ("rust" | "port"), Ok(n @ 2..=64), Ok(count)) if words.len() == 3 => {
             println!("{} nodes", passes(side, n, count));
         }
-        ("", ..) => table(),
+        ("", ..) => {
+            head();
+            small_rows();
+            running_rows();
+        }
+        ("running", ..) if words.len() == 1 => {
+            head();
+            running_rows();
+        }
         _ => {
-            eprintln!("speed, or speed rust|port N PASSES with N from 2 to 23");
+            eprintln!("speed, or speed running, or speed rust|port N PASSES with N from 2 to 64");
             std::process::exit(2);
         }
     }
 }
 
-fn table() {
+fn head() {
     println!("| call | inputs | size | Rust, best | port, best | ratio | Rust, median | port, median | ratio |");
     println!("|---|---:|---|---:|---:|---:|---:|---:|---:|");
+}
+
+/// From 24 dimensions on. A list's places fit the port's private array, but for the last row's, which is walked twice.
+fn running_rows() {
+    for n in [24, 32, 48, 64] {
+        time_nearest(n, residual(n));
+    }
+    for n in [24, 32, 48, 64] {
+        time_list(n, 256, 256);
+    }
+    for n in [24, 64] {
+        let rows = PRIVATE / n;
+        time_list(n, 9 * rows / 10, rows);
+    }
+    time_list(64, 4000, 4096);
+}
+
+fn small_rows() {
     for n in [8, 12, 16, 20, 23] {
         time_ml(n);
     }

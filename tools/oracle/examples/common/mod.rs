@@ -76,10 +76,10 @@ pub fn refusal(error: DecodeError) -> Refusal {
     }
 }
 
-/// The first of refusals 2 to 5.
-fn table_fault(weights: &[f64], mu: &[f64]) -> Option<Refusal> {
+/// The first of refusals 2 to 5, of a table with so many dimensions at most.
+fn table_fault(largest: usize, weights: &[f64], mu: &[f64]) -> Option<Refusal> {
     let n = weights.len();
-    if n > 23 || mu.len() != n * n {
+    if n > largest || mu.len() != n * n {
         return Some(Refusal::TableSize(n));
     }
     let first = |bad: &dyn Fn(f64) -> bool| (0..n * n).find(|k| k / n > k % n && bad(mu[*k]));
@@ -90,15 +90,17 @@ fn table_fault(weights: &[f64], mu: &[f64]) -> Option<Refusal> {
 }
 
 /// What `call` answers over the table, with the refusals that the original does not have in their places: 2 to 5 before
-/// all of the call's own, 9 and then 14, which is `size`, after its 6 to 8 and before its others.
+/// all of the call's own, 9 and then 14, which is `size`, after its 6 to 8 and before its others. 2 lets `largest`
+/// dimensions pass.
 pub fn answer<T>(
+    largest: usize,
     weights: &[f64],
     mu: &[f64],
     budget: u64,
     size: Option<Refusal>,
     call: impl FnOnce(&Enumerator, u64) -> Result<T, Refusal>,
 ) -> Result<T, Refusal> {
-    if let Some(fault) = table_fault(weights, mu) {
+    if let Some(fault) = table_fault(largest, weights, mu) {
         return Err(fault);
     }
     let fault = if budget > 1 << 60 { Some(Refusal::BudgetRange(budget)) } else { size };

@@ -14,9 +14,9 @@ use Rattle.search.proofs.States.{lastState, view}
 use Rattle.search.proofs.Instances.{listOnly, list-instance, walk-from-start, ready-at-start}
 use Rattle.search.proofs.Outcomes.{is-exhausted, is-listed}
 use Rattle.listing.specs.View.{endingOf}
-use Rattle.listing.proofs.Walks.{exhausted-unlisted, found-ending, found-stored}
-use Rattle.listing.proofs.list_walk.Statement.{statement}
-use Rattle.listing.proofs.list_walk.Tie as tie
+use Rattle.listing.proofs.WalkEnds.{exhausted-unlisted, found-ending, found-stored}
+use Rattle.listing.proofs.walks.list_walk.Statement.{statement}
+use Rattle.listing.proofs.walks.list_walk.Tie as tie
 
 abbrev start : tie.After-run → tie.Start
 start v = v .before .before .before .before .before .before .before .before .before .before .before

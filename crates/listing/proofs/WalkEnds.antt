@@ -1,9 +1,10 @@
 -- How a walk's search, at its end, is the list walk of the definitions. Assumes nothing.
-use mathlib.Core.Path.{_≡_, ap, sym, _∙_}
+use mathlib.Core.Path.{_≡_, ap, sym, _∙_, subst}
 use mathlib.Core.List.{List, reverse}
 use Prim.Native.Nat.{ℕ, min}
 use native.Mathlib.Omega.{arith}
 use lib.ListN.{length, take}
+use lib.IntN.{ℤ}
 use lib.Ieee.{Float}
 use Rattle.definitions.specs.Walk.{Walked, ended, exhausted}
 use Rattle.definitions.specs.Listing.{ListPoint}
@@ -11,7 +12,13 @@ use Rattle.definitions.specs.Rows.{rows}
 use Rattle.search.specs.Call.{State}
 use Rattle.search.proofs.Outcomes.{Found}
 use Rattle.listing.specs.View.{endingOf}
+use Rattle.listing.specs.Ready.{ListWalked}
+use Rattle.listing.specs.declared.ListEnding.{ListEnding}
 use Rattle.listing.specs.declared.ListEnding.the-variants.{Ended}
+
+-- a walk by another name
+pub walked-as : {n places : ℕ} {v w : Walked (List ListPoint)} {r : ListEnding} {distances : List Float} {points : List ℤ} → v ≡ w → ListWalked n places v r distances points → ListWalked n places w r distances points
+walked-as {n} {places} {v} {w} {r} {distances} {points} e = subst (λ (x : Walked (List ListPoint)). ListWalked n places x r distances points) e
 
 -- a walk that was exhausted has no list
 pub exhausted-unlisted : (w : Walked (List ListPoint)) (l : ℕ) (S : Float) → w ≡ exhausted l S → (ps : List ListPoint) (R : Float) (m : ℕ) → w ≡ ended ps R m → ⊥

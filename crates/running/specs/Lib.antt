@@ -1,0 +1,4 @@
+-- What the contracts cite.
+pub mod Centers
+pub mod Call
+pub mod Search
