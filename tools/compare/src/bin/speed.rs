@@ -260,7 +260,20 @@ fn list_input(n: usize, number: u64, points: usize, scratch: &mut EnumerationScr
 
 fn time_list(n: usize, points: usize, places: usize) {
     let scratch = &mut EnumerationScratch::new();
-    let mut inputs: Vec<Input> = (0..10).map(|k| list_input(n, k, points, scratch)).collect();
+    time_lists((0..10).map(|k| list_input(n, k, points, scratch)).collect(), places);
+}
+
+/// All vectors of zeros and ones at the twelve highest levels, at one distance: 4,096 points, of which a sort compares the
+/// coordinates from the lowest up.
+fn equally_near(n: usize) -> Input {
+    let (weights, mu, mut target) = (vec![1.0; n], vec![0.0; n * n], vec![0.0; n]);
+    target[n - 12..].fill(0.5);
+    let table = Enumerator::from_table(&weights, &mu);
+    Input { case: Case::new(Call::List, &weights, &mu, &target, 3.0, AMPLE), table }
+}
+
+fn time_lists(mut inputs: Vec<Input>, places: usize) {
+    let (scratch, n) = (&mut EnumerationScratch::new(), inputs[0].case.weights.len());
     for input in &mut inputs {
         input.case = input.case.clone().with_places(places);
         assert_same(&input.case);
@@ -342,6 +355,7 @@ fn running_rows() {
         time_list(n, 9 * rows / 10, rows);
     }
     time_list(64, 4000, 4096);
+    time_lists(vec![equally_near(64)], 4096);
 }
 
 fn small_rows() {
