@@ -54,10 +54,11 @@
  *    3 MuNonFinite          its index                             an entry that is read is not finite
  *    4 MuRange              its index                             an entry that is read is above 2^52 in magnitude
  *    5 WeightRange          its index                             a weight is not finite or not above 0
- *    6 LengthMismatch       expected           found              target, then output, is not n long
+ *    6 LengthMismatch       expected           found              target, then output, is not n long; before them,
+ *                                                                 a slice of a block of names has another length
  *    7 NonFinite            its index                             a target is not finite, or above 2^52 in magnitude
  *    8 InvalidRadius                                    radius    negative or not finite; minus zero counts as 0
- *    9 BudgetRange          budget                                it is above 2^60
+ *    9 BudgetRange          budget                                it is above 2^60; in a pickup 27 is in its place
  *   10 CandidateLength      expected           found              the candidate is not n long
  *   11 CandidateDistance                                total     the candidate's distance overflows
  *   12 CandidateOutside                                 radius    the candidate's distance is above it
@@ -74,19 +75,29 @@
  *                                                                 counted from n*n on; also 0: one is not n*n long
  *   23 NotInverse                                                 transform and inverse are not inverse to each other
  *   24 MappedRange          its column                            a coordinate of the mapped point is no int64_t
+ *   25 NameRange                                                  the name is not from 1 to 8
+ *   26 NameEmpty                                                  the name holds no search
+ *   27 SumRange             the sum                               of a kept search's budgets, this one too, is above
+ *                                                                 2^60; 2^64-1 stands for every larger sum
  *
- * The first number that fits is the answer; snowgimmer_prepared_nearest_ml alone has another order, which it says. A
- * refusal leaves every slice that it is lent as it was.
+ * The first number that fits is the answer; snowgimmer_prepared_nearest_ml, snowgimmer_nearest_named and
+ * snowgimmer_pick_up alone have other orders, which they say. A refusal leaves every slice that it is lent as it was.
+ * THE EXCEPTION is a block of names, which is lent too: refusal 15 of snowgimmer_nearest_named and snowgimmer_pick_up
+ * changes it, since the search is kept there, and so does 16 of snowgimmer_pick_up, which empties the name. The output
+ * is never changed by a refusal.
  *
  * A RADIUS of minus zero, as a computed one may be, counts as 0: the answer is that at 0, and after a refusal real is
- * never minus zero. Before 0.5.0 it came back in 12, 15 and 16.
+ * never minus zero, but for a pickup from a block that these functions have not written. Before 0.5.0 it came back in
+ * 12, 15 and 16.
  *
- * A BUDGET is the number of nodes that a search may try, up to 2^60. A search with more to try ends with 15.
+ * A BUDGET is the number of nodes that a search may try, up to 2^60. A search with more to try ends with 15. Under a
+ * name it is kept then, and can be picked up with a further budget: struct snowgimmer_names.
  *
  * POINTERS. Each is aligned and not null, also where its length is 0, and there are as many elements as its length
  * says, also where the call refuses that length. What a function writes overlaps nothing else that it is passed. Nothing
- * is allocated and nothing is kept between calls, so calls may run side by side. The floating-point unit rounds to
- * nearest and keeps subnormal numbers, as a C program starts.
+ * is allocated, and nothing is kept between calls but in a block of names that the caller lends. So calls may run side
+ * by side, unless they are lent the same block. The floating-point unit rounds to nearest and keeps subnormal numbers,
+ * as a C program starts.
  */
 #ifndef SNOWGIMMER_H
 #define SNOWGIMMER_H
@@ -95,9 +106,9 @@
 #include <stdint.h>
 
 #define SNOWGIMMER_VERSION_MAJOR 0
-#define SNOWGIMMER_VERSION_MINOR 10
+#define SNOWGIMMER_VERSION_MINOR 11
 #define SNOWGIMMER_VERSION_PATCH 0
-#define SNOWGIMMER_VERSION "0.10.0"
+#define SNOWGIMMER_VERSION "0.11.0"
 
 /* The largest n of every function with a table but the two below. */
 #define SNOWGIMMER_LARGEST_DIMENSION 23
@@ -111,6 +122,13 @@
 #define SNOWGIMMER_LARGEST_FACTOR 1000
 /* The largest magnitude of an entry of mu, of a target and of an element of transform and inverse, 2^52. */
 #define SNOWGIMMER_COORD_LIMIT 4503599627370496.0
+/* The largest name under which a search is kept; the smallest is 1. */
+#define SNOWGIMMER_NAMES 8
+/* How many elements the slices of a block of names have, and how many bytes all three together. */
+#define SNOWGIMMER_NAMES_REALS 5168
+#define SNOWGIMMER_NAMES_INTEGERS 736
+#define SNOWGIMMER_NAMES_COUNTS 768
+#define SNOWGIMMER_NAMES_SIZE 53376
 
 #ifdef __cplusplus
 extern "C" {
@@ -140,7 +158,10 @@ enum snowgimmer_refusal {
     SNOWGIMMER_SETTING_RANGE = 21,
     SNOWGIMMER_MATRIX_RANGE = 22,
     SNOWGIMMER_NOT_INVERSE = 23,
-    SNOWGIMMER_MAPPED_RANGE = 24
+    SNOWGIMMER_MAPPED_RANGE = 24,
+    SNOWGIMMER_NAME_RANGE = 25,
+    SNOWGIMMER_NAME_EMPTY = 26,
+    SNOWGIMMER_SUM_RANGE = 27
 };
 
 /* The name of an answer as in the table above, "Success" of 0, and "Unknown" of a number that is not there. */
@@ -169,6 +190,9 @@ static inline const char *snowgimmer_refusal_name(uint32_t number) {
     case SNOWGIMMER_MATRIX_RANGE: return "MatrixRange";
     case SNOWGIMMER_NOT_INVERSE: return "NotInverse";
     case SNOWGIMMER_MAPPED_RANGE: return "MappedRange";
+    case SNOWGIMMER_NAME_RANGE: return "NameRange";
+    case SNOWGIMMER_NAME_EMPTY: return "NameEmpty";
+    case SNOWGIMMER_SUM_RANGE: return "SumRange";
     default: return "Unknown";
     }
 }
@@ -252,6 +276,97 @@ uint32_t snowgimmer_nearest_ml(const double *weights, size_t weights_len, const 
 uint32_t snowgimmer_prepared_nearest_ml(const double *weights, size_t weights_len, const double *mu, size_t mu_len,
     const int64_t *transform, size_t transform_len, const int64_t *inverse, size_t inverse_len, const double *target,
     size_t target_len, int64_t *out, size_t out_len, uint64_t budget, uint64_t *first, uint64_t *second, double *real);
+
+/* A block of eight names, 1 to 8. Each holds a nearest search whose budget ran out, or is empty. The caller owns the
+ * block and lends it to the calls: a search that is kept there goes on when there is time for it, and others may be
+ * made in between. Zeros are eight empty names, so a static block starts empty, and so does one by = {0} or calloc:
+ *
+ *     static struct snowgimmer_names names;
+ *     number = snowgimmer_nearest_kept(&names, 3, weights, n, mu, n * n, target, n, out, n, radius, 100000, ..);
+ *     while (number == SNOWGIMMER_BUDGET_EXHAUSTED) {
+ *         .. what can't wait ..
+ *         number = snowgimmer_pick_up_kept(&names, 3, out, n, 100000, &first, &second, &real);
+ *     }
+ *
+ * as examples/put_down.c shows. It takes 53 kB, which a small stack may not have.
+ *
+ * WHAT IS IN IT is for the library to read and write. It may be copied, stored and moved as bytes, also to another
+ * machine of the same byte order. A name is empty if its numbers fail a test: n is at most 23, the nodes are at most
+ * 2^60, at least one level is open, the open levels rise and are below n, and none has made more steps than the nodes
+ * allow. Any other contents, whoever wrote them, are run safely as the search that they say: no index is out of range,
+ * no integer overflows, no loop is endless, and a call tries at most as many nodes as its budget says. But what is
+ * found then is only what these numbers say.
+ *
+ * THE BLOCK HOLDS THE TABLES AND TARGETS of the searches that are kept. If they are confidential, clear it after use.
+ * One block must not be used by two threads at once; different blocks may. Since 0.11.0. */
+struct snowgimmer_names {
+    double reals[SNOWGIMMER_NAMES_REALS];
+    int64_t integers[SNOWGIMMER_NAMES_INTEGERS];
+    uint64_t counts[SNOWGIMMER_NAMES_COUNTS];
+};
+
+#if defined(__cplusplus) && __cplusplus >= 201103L
+static_assert(sizeof(struct snowgimmer_names) == SNOWGIMMER_NAMES_SIZE, "a block of names has other elements here");
+#elif defined(__STDC_VERSION__) && __STDC_VERSION__ >= 201112L
+_Static_assert(sizeof(struct snowgimmer_names) == SNOWGIMMER_NAMES_SIZE, "a block of names has other elements here");
+#endif
+
+/* The search of snowgimmer_nearest, with n up to 23, under a name from 1 to 8 of a block. Its answer, out, first and
+ * real are those of snowgimmer_nearest. If it ends with 15, it is kept under the name in the place of what that held,
+ * with its own copy of table and target and with its walk where it stopped: snowgimmer_pick_up goes on from there. If
+ * it ends otherwise, the block is as it was, also where the name holds an older search. With n = 0 nothing is ever
+ * kept, since the empty point is found without a node.
+ *
+ * reals, integers and counts are the slices of the block; snowgimmer_nearest_kept takes it as a whole. Refused, in this
+ * order: 25; 6, if reals, integers or counts does not have its 5168, 736 or 768 elements; 2, if n is above 23; 3 to 9;
+ * 15, which keeps the search; 16. Any refusal but 15 leaves the block as it was. Stack: 18 kB. Since 0.11.0. */
+uint32_t snowgimmer_nearest_named(double *reals, size_t reals_len, int64_t *integers, size_t integers_len,
+    uint64_t *counts, size_t counts_len, uint64_t name, const double *weights, size_t weights_len, const double *mu,
+    size_t mu_len, const double *target, size_t target_len, int64_t *out, size_t out_len, double radius,
+    uint64_t budget, uint64_t *first, uint64_t *second, double *real);
+
+/* Goes on with the search that a name holds, with a further budget. After any number of pickups the answer, out, first
+ * and real are those of one search that has the sum of all budgets: first counts the nodes of all of them. A pickup
+ * takes the time of its own nodes, not that of the walk from its start. Table and target are the copies that were kept,
+ * whatever has become of the caller's own.
+ *
+ * If it ends with a point or with 16, the name is empty then. If it ends with 15, the search is kept again where it
+ * stopped: first is the number of nodes so far, which is the sum of the budgets, and real the standing radius. A budget
+ * of 0 is taken, and answers 15 with the same numbers again. 16 tells the radius that the search was given at first.
+ *
+ * Refused, in this order: 25; 6, if reals, integers or counts does not have its 5168, 736 or 768 elements; 26; 6, if
+ * out does not have the n elements of the search that is kept; 27, in the place of 9, if the sum of its budgets, this
+ * one too, is above 2^60; 15; 16. 25, 6, 26 and 27 leave the block as it was. Where n is not known, out_len 0 asks for
+ * it: the answer is then 26, or 6 with n in first. Stack: 13 kB. Since 0.11.0. */
+uint32_t snowgimmer_pick_up(double *reals, size_t reals_len, int64_t *integers, size_t integers_len, uint64_t *counts,
+    size_t counts_len, uint64_t name, int64_t *out, size_t out_len, uint64_t budget, uint64_t *first,
+    uint64_t *second, double *real);
+
+/* Empties every name of a block, by zeros that no compiler leaves out. */
+static inline void snowgimmer_names_clear(struct snowgimmer_names *names) {
+    volatile double *reals = names->reals;
+    volatile int64_t *integers = names->integers;
+    volatile uint64_t *counts = names->counts;
+    for (size_t k = 0; k < SNOWGIMMER_NAMES_REALS; k++) reals[k] = 0.0;
+    for (size_t k = 0; k < SNOWGIMMER_NAMES_INTEGERS; k++) integers[k] = 0;
+    for (size_t k = 0; k < SNOWGIMMER_NAMES_COUNTS; k++) counts[k] = 0;
+}
+
+/* snowgimmer_nearest_named with a whole block, whose lengths can't be wrong. */
+static inline uint32_t snowgimmer_nearest_kept(struct snowgimmer_names *names, uint64_t name, const double *weights,
+    size_t weights_len, const double *mu, size_t mu_len, const double *target, size_t target_len, int64_t *out,
+    size_t out_len, double radius, uint64_t budget, uint64_t *first, uint64_t *second, double *real) {
+    return snowgimmer_nearest_named(names->reals, SNOWGIMMER_NAMES_REALS, names->integers, SNOWGIMMER_NAMES_INTEGERS,
+        names->counts, SNOWGIMMER_NAMES_COUNTS, name, weights, weights_len, mu, mu_len, target, target_len, out,
+        out_len, radius, budget, first, second, real);
+}
+
+/* snowgimmer_pick_up with a whole block, whose lengths can't be wrong. */
+static inline uint32_t snowgimmer_pick_up_kept(struct snowgimmer_names *names, uint64_t name, int64_t *out,
+    size_t out_len, uint64_t budget, uint64_t *first, uint64_t *second, double *real) {
+    return snowgimmer_pick_up(names->reals, SNOWGIMMER_NAMES_REALS, names->integers, SNOWGIMMER_NAMES_INTEGERS,
+        names->counts, SNOWGIMMER_NAMES_COUNTS, name, out, out_len, budget, first, second, real);
+}
 
 /* Lists every integer vector admitted at the radius, by distance and then coordinates: the distances go to distances,
  * at most 4096, and n coordinates for each to points, which is n times as long. first is the number of nodes, second

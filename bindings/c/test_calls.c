@@ -14,6 +14,7 @@
 #define MOST (SNOWGIMMER_LARGEST_LIST + 1)
 #define LONG 65
 #define LARGE (SNOWGIMMER_LARGEST_DIMENSION + 1)
+#define DRAWN 12
 
 static const double weights[N] = {1.0, 1.0};
 static const double mu[N * N] = {0.0, 0.0, 0.5, 0.0};
@@ -386,6 +387,9 @@ static void sizes(void) {
         &second, &real), SNOWGIMMER_TABLE_SIZE, 24, 0, 0.0);
     expect("24 weights, prepared", snowgimmer_prepared_nearest_ml(t->weights, n, t->mu, n * n, points, n * n, points,
         n * n, t->target, n, out, n, 100, &first, &second, &real), SNOWGIMMER_TABLE_SIZE, 24, 0, 0.0);
+    static struct snowgimmer_names names;
+    expect("24 weights, named", snowgimmer_nearest_kept(&names, 1, t->weights, n, t->mu, n * n, t->target, n, out, n,
+        0.5, 2, &first, &second, &real), SNOWGIMMER_TABLE_SIZE, 24, 0, 0.0);
     expect("24 weights, plane", snowgimmer_nearest_plane(t->weights, n, t->mu, n * n, coefficients, n, out, n, &first,
         &second, &real), SNOWGIMMER_TABLE_SIZE, 24, 0, 0.0);
     expect("24 weights, distance", snowgimmer_distance(t->weights, n, t->mu, n * n, t->target, n, out, n, &first,
@@ -669,6 +673,254 @@ static void entries(void) {
     expect_true("each verdict comes often", told[0] > 100 && told[3] > 100 && told[4] > 100);
 }
 
+/* A block of names, and what was in it when it was last remembered. */
+static struct snowgimmer_names block, remembered;
+
+static void remember(void) { remembered = block; }
+
+static void expect_unchanged(const char *what) {
+    expect_true(what, memcmp(&block, &remembered, sizeof block) == 0);
+}
+
+static void expect_empty(const char *what) {
+    static struct snowgimmer_names zeros;
+    expect_true(what, memcmp(&block, &zeros, sizeof block) == 0);
+}
+
+/* nearest under a name, over a table of n = 2 whose nearest point is 0, 1; a refusal must leave the output alone */
+static uint32_t named(uint64_t name, const double *w, const double *m, const double *t, double radius,
+    uint64_t budget) {
+    int64_t out[N] = {7, 8};
+    first = second = 77;
+    real = 77.0;
+    uint32_t number = snowgimmer_nearest_kept(&block, name, w, N, m, N * N, t, N, out, N, radius, budget, &first,
+        &second, &real);
+    if (number == SNOWGIMMER_SUCCESS) expect_point("named", out, 0, 1);
+    else expect_point("named, refused", out, 7, 8);
+    return number;
+}
+
+/* the same over case G */
+static uint32_t named_g(uint64_t name, uint64_t budget) { return named(name, weights, mu, target, 2.0, budget); }
+
+/* pick_up into so many places, which gives 0, 1 or must leave them alone */
+static uint32_t pick_up_into(size_t places, uint64_t name, uint64_t budget) {
+    int64_t out[N + 1] = {7, 8, 9};
+    first = second = 77;
+    real = 77.0;
+    uint32_t number = snowgimmer_pick_up_kept(&block, name, out, places, budget, &first, &second, &real);
+    if (number == SNOWGIMMER_SUCCESS) expect_point("picked up", out, 0, 1);
+    else expect_point("picked up, refused", out, 7, 8);
+    expect_true("picked up", out[2] == 9);
+    return number;
+}
+
+static uint32_t pick_up(uint64_t name, uint64_t budget) { return pick_up_into(N, name, budget); }
+
+/* What pickups come to: 2 nodes of case G have found its point, and 5 end it. */
+static void pickups(void) {
+    snowgimmer_names_clear(&block);
+    expect_empty("cleared");
+    expect("kept", named_g(3, 2), SNOWGIMMER_BUDGET_EXHAUSTED, 2, 0, 0.25);
+    expect("picked up", pick_up(3, 3), SNOWGIMMER_SUCCESS, 5, 0, 0.25);
+    expect_empty("a point empties the name");
+    expect("picked up again", pick_up(3, 3), SNOWGIMMER_NAME_EMPTY, 0, 0, 0.0);
+    expect("kept with 2", named_g(3, 2), SNOWGIMMER_BUDGET_EXHAUSTED, 2, 0, 0.25);
+    expect("2 more", pick_up(3, 2), SNOWGIMMER_BUDGET_EXHAUSTED, 4, 0, 0.25);
+    remember();
+    expect("none more", pick_up(3, 0), SNOWGIMMER_BUDGET_EXHAUSTED, 4, 0, 0.25);
+    expect_unchanged("none more");
+    expect("1 more", pick_up(3, 1), SNOWGIMMER_SUCCESS, 5, 0, 0.25);
+    expect("kept with none", named_g(3, 0), SNOWGIMMER_BUDGET_EXHAUSTED, 0, 0, 2.0);
+    for (uint64_t nodes = 1; nodes < 5; nodes++)
+        expect("one by one", pick_up(3, 1), SNOWGIMMER_BUDGET_EXHAUSTED, nodes, 0, nodes < 2 ? 2.0 : 0.25);
+    expect("the last", pick_up(3, 1), SNOWGIMMER_SUCCESS, 5, 0, 0.25);
+    /* case H at the radius 1, inside which there is nothing */
+    const double w[N] = {2 * DBL_EPSILON, 4.0}, zero[N * N] = {0.0}, half[N] = {0.5, 0.5};
+    expect("case H, kept", named(8, w, zero, half, 1.0, 1), SNOWGIMMER_BUDGET_EXHAUSTED, 1, 0, 1.0);
+    expect("case H, outside", pick_up(8, 1), SNOWGIMMER_OUTSIDE_RADIUS, 0, 0, 1.0);
+    expect_empty("16 empties the name");
+}
+
+/* What stays under a name, and what takes its place. */
+static void what_is_kept(void) {
+    double w[N] = {1.0, 1.0}, m[N * N] = {NAN, NAN, 0.5, NAN}, t[N] = {0.25, 0.5};
+    snowgimmer_names_clear(&block);
+    expect("kept", named(1, w, m, t, 2.0, 2), SNOWGIMMER_BUDGET_EXHAUSTED, 2, 0, 0.25);
+    for (int i = 0; i < N; i++) w[i] = m[N] = t[i] = NAN;
+    remember();
+    expect("a point", named_g(1, 5), SNOWGIMMER_SUCCESS, 5, 0, 0.25);
+    expect("outside", named(1, weights, mu, target, 0.125, 9), SNOWGIMMER_OUTSIDE_RADIUS, 0, 0, 0.125);
+    expect_unchanged("searches that end leave an older one");
+    expect("another name", named_g(8, 4), SNOWGIMMER_BUDGET_EXHAUSTED, 4, 0, 0.25);
+    expect("the first", pick_up(1, 0), SNOWGIMMER_BUDGET_EXHAUSTED, 2, 0, 0.25);
+    expect("the other", pick_up(8, 1), SNOWGIMMER_SUCCESS, 5, 0, 0.25);
+    expect_unchanged("the other name is empty again");
+    expect("replaced", named_g(1, 4), SNOWGIMMER_BUDGET_EXHAUSTED, 4, 0, 0.25);
+    expect("what took its place", pick_up(1, 0), SNOWGIMMER_BUDGET_EXHAUSTED, 4, 0, 0.25);
+    block = remembered;
+    expect("a copy, with its own table", pick_up(1, 3), SNOWGIMMER_SUCCESS, 5, 0, 0.25);
+    expect_empty("a copy, with its own table");
+    int64_t out = 7;
+    uint32_t number = snowgimmer_nearest_kept(&block, 1, weights, 0, mu, 0, target, 0, &out, 0, 2.0, 0, &first, &second,
+        &real);
+    expect("n = 0, named", number, SNOWGIMMER_SUCCESS, 0, 0, 0.0);
+    expect_empty("n = 0 is not kept");
+}
+
+/* 25, 26, 27 and the checks of the table under a name, none of which changes the block. */
+static void refused_names(void) {
+    const uint64_t none[] = {0, 9, (uint64_t)1 << 32, UINT64_MAX}, most = SNOWGIMMER_LARGEST_BUDGET;
+    const double zero[N] = {1.0, 0.0};
+    snowgimmer_names_clear(&block);
+    expect("kept", named_g(3, 2), SNOWGIMMER_BUDGET_EXHAUSTED, 2, 0, 0.25);
+    remember();
+    for (int i = 0; i < 4; i++) {
+        expect("no name", named(none[i], zero, mu, target, -1.0, most + 1), SNOWGIMMER_NAME_RANGE, 0, 0, 0.0);
+        expect("no name, picked up", pick_up_into(1, none[i], UINT64_MAX), SNOWGIMMER_NAME_RANGE, 0, 0, 0.0);
+    }
+    for (uint64_t name = 1; name <= SNOWGIMMER_NAMES; name++) {
+        if (name != 3) expect("empty", pick_up_into(1, name, UINT64_MAX), SNOWGIMMER_NAME_EMPTY, 0, 0, 0.0);
+    }
+    expect("weight 0", named(3, zero, mu, target, -1.0, most + 1), SNOWGIMMER_WEIGHT_RANGE, 1, 0, 0.0);
+    expect("radius", named(3, weights, mu, target, -1.0, most + 1), SNOWGIMMER_INVALID_RADIUS, 0, 0, -1.0);
+    expect("budget", named_g(3, most + 1), SNOWGIMMER_BUDGET_RANGE, most + 1, 0, 0.0);
+    for (size_t places = 0; places < 4; places++)
+        if (places != N) expect("output", pick_up_into(places, 3, most), SNOWGIMMER_LENGTH_MISMATCH, 2, places, 0.0);
+    expect("the sum", pick_up(3, most - 1), SNOWGIMMER_SUM_RANGE, most + 1, 0, 0.0);
+    expect("a sum of 2^64-2", pick_up(3, UINT64_MAX - 3), SNOWGIMMER_SUM_RANGE, UINT64_MAX - 1, 0, 0.0);
+    expect("a sum of 2^64-1", pick_up(3, UINT64_MAX - 2), SNOWGIMMER_SUM_RANGE, UINT64_MAX, 0, 0.0);
+    expect("a larger sum", pick_up(3, UINT64_MAX - 1), SNOWGIMMER_SUM_RANGE, UINT64_MAX, 0, 0.0);
+    expect("the largest", pick_up(3, UINT64_MAX), SNOWGIMMER_SUM_RANGE, UINT64_MAX, 0, 0.0);
+    expect_unchanged("refusals leave the block as it was");
+    expect("2^60 itself", pick_up(3, most - 2), SNOWGIMMER_SUCCESS, 5, 0, 0.25);
+}
+
+/* The functions by slices: lengths of a block that are wrong, after 25 and before 2 and 26. */
+static void block_lengths(void) {
+    static double reals[SNOWGIMMER_NAMES_REALS + 1];
+    static int64_t integers[SNOWGIMMER_NAMES_INTEGERS + 1];
+    static uint64_t counts[SNOWGIMMER_NAMES_COUNTS + 1];
+    const size_t right[3] = {SNOWGIMMER_NAMES_REALS, SNOWGIMMER_NAMES_INTEGERS, SNOWGIMMER_NAMES_COUNTS};
+    int64_t out[N] = {7, 8};
+    for (int wrong = 0; wrong < 3; wrong++) {
+        const size_t found[3] = {0, right[wrong] - 1, right[wrong] + 1};
+        for (int k = 0; k < 3; k++) {
+            /* those behind the wrong one are wrong too */
+            size_t len[3] = {right[0], wrong < 1 ? 0 : right[1], 0};
+            len[wrong] = found[k];
+            for (uint64_t name = 0; name < 2; name++) {
+                const uint32_t expected = name == 0 ? SNOWGIMMER_NAME_RANGE : SNOWGIMMER_LENGTH_MISMATCH;
+                const uint64_t one = name == 0 ? 0 : right[wrong], two = name == 0 ? 0 : found[k];
+                expect("length, named", snowgimmer_nearest_named(reals, len[0], integers, len[1], counts, len[2], name,
+                    weights, N, mu, 3, target, N, out, N, 2.0, 2, &first, &second, &real), expected, one, two, 0.0);
+                expect("length, picked up", snowgimmer_pick_up(reals, len[0], integers, len[1], counts, len[2], name,
+                    out, N, 2, &first, &second, &real), expected, one, two, 0.0);
+            }
+        }
+    }
+    uint32_t number = snowgimmer_nearest_named(reals, right[0], integers, right[1], counts, right[2], 1, weights, N, mu,
+        N * N, target, N, out, N, 2.0, 2, &first, &second, &real);
+    expect("slices of zeros", number, SNOWGIMMER_BUDGET_EXHAUSTED, 2, 0, 0.25);
+    expect_point("slices of zeros", out, 7, 8);
+    number = snowgimmer_pick_up(reals, right[0], integers, right[1], counts, right[2], 1, out, N, 3, &first, &second,
+        &real);
+    expect("slices", number, SNOWGIMMER_SUCCESS, 5, 0, 0.25);
+    expect_point("slices", out, 0, 1);
+}
+
+/* A drawn table whose weights fall, for a search of some thousand nodes at the radius 80. */
+static void drawn_search(double *w, double *m, double *t) {
+    for (size_t k = 0; k < DRAWN * DRAWN; k++) m[k] = draw(1001) / 1000.0 - 0.5;
+    for (size_t i = 0; i < DRAWN; i++) {
+        w[i] = (double)(1 << (9 - 9 * i / (DRAWN - 1))) * (1.0 + draw(1000) / 1000.0);
+        t[i] = draw(20001) / 1000.0 - 10.0;
+    }
+}
+
+/* A search in slices of the budget gives what it gives in one. */
+static void slices(void) {
+    const uint64_t budgets[] = {1, 7, 100, 1000};
+    for (int k = 0; k < 4; k++) {
+        double w[DRAWN], m[DRAWN * DRAWN], t[DRAWN];
+        int64_t whole[DRAWN], out[DRAWN] = {0};
+        drawn_search(w, m, t);
+        uint32_t number = snowgimmer_nearest(w, DRAWN, m, DRAWN * DRAWN, t, DRAWN, whole, DRAWN, 80.0, 100000, &first,
+            &second, &real);
+        const uint64_t nodes = first;
+        const double distance = real;
+        expect_true("a search of some thousand nodes", number == SNOWGIMMER_SUCCESS && nodes > 1000);
+        number = snowgimmer_nearest_kept(&block, 5, w, DRAWN, m, DRAWN * DRAWN, t, DRAWN, out, DRAWN, 80.0, budgets[k],
+            &first, &second, &real);
+        for (uint64_t spent = budgets[k]; spent < nodes; spent += budgets[k]) {
+            expect_true("spent", number == SNOWGIMMER_BUDGET_EXHAUSTED && first == spent && out[0] == 0);
+            number = snowgimmer_pick_up_kept(&block, 5, out, DRAWN, budgets[k], &first, &second, &real);
+        }
+        expect("in slices", number, SNOWGIMMER_SUCCESS, nodes, 0, distance);
+        expect_true("in slices", same(real, distance) && memcmp(out, whole, sizeof out) == 0);
+    }
+    expect_empty("in slices");
+}
+
+/* A name with these contents ends as a search or is empty, and tries at most as many nodes as the budget says. */
+static void run_contents(uint64_t name) {
+    int64_t out[SNOWGIMMER_LARGEST_DIMENSION];
+    uint32_t number = snowgimmer_pick_up_kept(&block, name, out, 0, 50, &first, &second, &real);
+    if (number == SNOWGIMMER_NAME_EMPTY) return;
+    expect_true("n of contents", number == SNOWGIMMER_LENGTH_MISMATCH && first > 0 && first <= 23 && second == 0);
+    const size_t n = (size_t)first;
+    number = snowgimmer_pick_up_kept(&block, name, out, n, 0, &first, &second, &real);
+    expect_true("nodes of contents", number == SNOWGIMMER_BUDGET_EXHAUSTED);
+    const uint64_t nodes = first;
+    number = snowgimmer_pick_up_kept(&block, name, out, n, 50, &first, &second, &real);
+    if (number == SNOWGIMMER_SUCCESS || number == SNOWGIMMER_BUDGET_EXHAUSTED)
+        expect_true("nodes of contents", first >= nodes && first <= nodes + 50);
+    else expect_true("contents", number == SNOWGIMMER_OUTSIDE_RADIUS || number == SNOWGIMMER_SUM_RANGE);
+}
+
+/* Contents that the library has not written: bytes of one kind, and kept searches with elements that are drawn. */
+static void other_contents(void) {
+    const int bytes[] = {0, 1, 0x7F, 0xFF};
+    for (int k = 0; k < 4; k++) {
+        memset(&block, bytes[k], sizeof block);
+        for (uint64_t name = 1; name <= SNOWGIMMER_NAMES; name++)
+            expect("bytes of one kind", pick_up(name, 9), SNOWGIMMER_NAME_EMPTY, 0, 0, 0.0);
+    }
+    double w[DRAWN], m[DRAWN * DRAWN], t[DRAWN];
+    int64_t out[DRAWN];
+    snowgimmer_names_clear(&block);
+    drawn_search(w, m, t);
+    for (uint64_t name = 1; name <= SNOWGIMMER_NAMES; name++)
+        snowgimmer_nearest_kept(&block, name, w, DRAWN, m, DRAWN * DRAWN, t, DRAWN, out, DRAWN, 80.0, 100 * name,
+            &first, &second, &real);
+    remember();
+    const double reals[] = {NAN, HUGE_VAL, -HUGE_VAL, DBL_MAX, -0.0, -1.0, 0.5};
+    const int64_t integers[] = {INT64_MIN, INT64_MAX, -1, 0, 1};
+    const uint64_t counts[] = {0, 1, 2, 7, 8, 22, 23, 24, (uint64_t)1 << 60, ((uint64_t)1 << 63) - 1, UINT64_MAX};
+    for (int k = 0; k < 2000; k++) {
+        block = remembered;
+        for (int i = 0; i < 20; i++) {
+            block.reals[draw(SNOWGIMMER_NAMES_REALS)] = reals[draw(7)];
+            block.integers[draw(SNOWGIMMER_NAMES_INTEGERS)] = integers[draw(5)];
+            if (i < 8) block.counts[draw(SNOWGIMMER_NAMES_COUNTS)] = counts[draw(11)];
+        }
+        for (uint64_t name = 1; name <= SNOWGIMMER_NAMES; name++) run_contents(name);
+    }
+    snowgimmer_names_clear(&block);
+    expect_empty("cleared");
+}
+
+static void kept_searches(void) {
+    expect_true("size", sizeof(struct snowgimmer_names) == SNOWGIMMER_NAMES_SIZE);
+    expect_empty("a static block");
+    pickups();
+    what_is_kept();
+    refused_names();
+    block_lengths();
+    slices();
+    other_contents();
+}
+
 /* ratio, which writes its report whatever it held, by so many of these distances */
 static void ratio(const char *what, double d1, double d2, size_t len, double radius, uint64_t p, uint64_t q,
     uint32_t expected, uint64_t verdict) {
@@ -784,8 +1036,9 @@ static void names(void) {
     static const char *const all[] = {"Success", "Unknown", "TableSize", "MuNonFinite", "MuRange", "WeightRange",
         "LengthMismatch", "NonFinite", "InvalidRadius", "BudgetRange", "CandidateLength", "CandidateDistance",
         "CandidateOutside", "WidenedRadius", "ListSize", "BudgetExhausted", "OutsideRadius", "Unknown", "ListFull",
-        "ReferenceIndex", "ChangedRange", "SettingRange", "MatrixRange", "NotInverse", "MappedRange", "Unknown"};
-    for (uint32_t number = 0; number < 26; number++) expect_name(number, all[number]);
+        "ReferenceIndex", "ChangedRange", "SettingRange", "MatrixRange", "NotInverse", "MappedRange", "NameRange",
+        "NameEmpty", "SumRange", "Unknown"};
+    for (uint32_t number = 0; number < 29; number++) expect_name(number, all[number]);
     expect_name(UINT32_MAX, "Unknown");
 }
 
@@ -807,6 +1060,7 @@ int main(void) {
     seeds();
     references();
     entries();
+    kept_searches();
     ratios();
     names();
     if (differences == 0) printf("all as expected\n");

@@ -26,10 +26,10 @@ from fractions import Fraction
 import snowgimmer
 from snowgimmer import (
     BudgetExhausted, BudgetRange, CandidateDistance, CandidateLength, CandidateOutside, ChangedRange, InvalidRadius,
-    LengthMismatch, ListFull, MappedRange, MatrixRange, MuNonFinite, MuRange, NonFinite, NotInverse, OutsideRadius,
-    Ratio, ReferenceIndex, SettingRange, TableSize, TriangleCheck, WeightRange, WidenedRadius, change_reference,
-    list_points, nearest, nearest_ml, nearest_plane, nearest_seeded, prepared_nearest_ml, ratio, round_away,
-    round_coefficients, triangular_distance)
+    LengthMismatch, ListFull, MappedRange, MatrixRange, MuNonFinite, MuRange, NameEmpty, NameRange, Names, NonFinite,
+    NotInverse, OutsideRadius, Ratio, ReferenceIndex, SettingRange, SumRange, TableSize, TriangleCheck, WeightRange,
+    WidenedRadius, change_reference, list_points, nearest, nearest_ml, nearest_plane, nearest_seeded,
+    prepared_nearest_ml, ratio, round_away, round_coefficients, triangular_distance)
 
 HERE = os.path.dirname(os.path.abspath(__file__))
 
@@ -355,6 +355,228 @@ class Prepared(Test):
             self.assertEqual(through(found.point, inverse), reduced.point)
 
 
+class Kept(Test):
+    """Searches under names. 2 nodes of case G at the radius 2 find its point, and 5 end the search."""
+
+    FOUND = (0, 1), 5, 0.25
+
+    def setUp(self):
+        self.names = Names()
+
+    def exhausted(self, nodes, radius, call, *arguments):
+        """The budget of the call runs out."""
+        self.refused(BudgetExhausted, {"nodes": nodes, "radius": radius}, call, *arguments)
+
+    def keep(self, name, budget, names=None):
+        """Keeps case G under a name."""
+        radius = 2.0 if budget < 2 else 0.25
+        self.exhausted(budget, radius, (names or self.names).nearest, name, *G, 2, budget)
+
+    def unchanged(self, kind, values, call, *arguments):
+        """The call raises this refusal, and leaves the names as they were."""
+        before = self.names.to_bytes()
+        self.refused(kind, values, call, *arguments)
+        self.assertEqual(self.names.to_bytes(), before)
+
+    def test_picked_up(self):
+        pick_up = self.names.pick_up
+        self.keep(3, 2)
+        self.assertEqual(self.names.held(), {3: 2})
+        self.assertEqual(pick_up(3, 3), self.FOUND)
+        self.assertEqual((self.names.held(), self.names.to_bytes()), ({}, bytes(snowgimmer.NAMES_SIZE)))
+        self.unchanged(NameEmpty, {}, pick_up, 3, 3)
+        self.keep(3, 2)
+        self.exhausted(4, 0.25, pick_up, 3, 2)
+        self.unchanged(BudgetExhausted, {"nodes": 4, "radius": 0.25}, pick_up, 3, 0)
+        found = pick_up(3, budget=1)
+        self.assertEqual((found.point, found.nodes, found.distance), self.FOUND)
+        # one by one
+        self.keep(3, 0)
+        for nodes in range(1, 5):
+            self.exhausted(nodes, 2.0 if nodes < 2 else 0.25, pick_up, 3, 1)
+        self.assertEqual(pick_up(3, 1), self.FOUND)
+
+    def test_nothing_inside_the_radius(self):
+        self.exhausted(1, 1.0, self.names.nearest, 8, *H, 1, 1)
+        self.refused(OutsideRadius, {"radius": 1.0}, self.names.pick_up, 8, 1)
+        self.assertEqual(self.names.to_bytes(), bytes(snowgimmer.NAMES_SIZE))
+        self.unchanged(NameEmpty, {}, self.names.pick_up, 8, 1)
+
+    def test_an_older_search(self):
+        self.keep(3, 2)
+        before = self.names.to_bytes()
+        self.assertEqual(self.names.nearest(3, *G, 2, 5), self.FOUND)
+        self.assertEqual(self.names.nearest(3, [], [], [], 2, 0), ((), 0, 0.0))
+        self.assertEqual(self.names.to_bytes(), before)
+        self.unchanged(OutsideRadius, {"radius": 0.125}, self.names.nearest, 3, *G, 0.125, 9)
+        self.exhausted(2, 0.25, self.names.pick_up, 3, 0)
+        # one that is kept takes its place
+        self.keep(3, 4)
+        self.exhausted(4, 0.25, self.names.pick_up, 3, 0)
+        self.exhausted(1, 1.0, self.names.nearest, 3, *H, 1, 1)
+        self.exhausted(1, 1.0, self.names.pick_up, 3, 0)
+
+    def test_names_apart(self):
+        for name in range(1, 9):
+            self.keep(name, name % 5)
+        self.assertEqual(self.names.held(), dict.fromkeys(range(1, 9), 2))
+        for name in range(8, 0, -1):
+            self.assertEqual(self.names.pick_up(name, 100), self.FOUND)
+            self.assertEqual(self.names.held(), dict.fromkeys(range(1, name), 2))
+
+    def test_its_own_copy(self):
+        weights, mu, target = array.array("d", G[0]), [list(row) for row in G[1]], array.array("d", G[2])
+        self.exhausted(2, 0.25, self.names.nearest, 1, weights, mu, target, 2, 2)
+        weights[0], mu[1][0], target[1] = math.nan, math.nan, math.nan
+        self.assertEqual(self.names.pick_up(1, 3), self.FOUND)
+
+    def test_no_dimension(self):
+        self.assertEqual(self.names.nearest(1, [], [], [], 2, 0), ((), 0, 0.0))
+        self.assertEqual(self.names.held(), {})
+
+    def test_names_that_are_none(self):
+        self.keep(3, 2)
+        for name in 0, 9, 2**32 + 3, 2**64 - 1, 2**64 + 3, -1, -2**70:
+            self.unchanged(NameRange, {}, self.names.nearest, name, [1, 0], [0] * 3, [math.nan], -1, 2**61)
+            self.unchanged(NameRange, {}, self.names.pick_up, name, 2**64 - 1)
+        for name in set(range(1, 9)) - {3}:
+            self.unchanged(NameEmpty, {}, self.names.pick_up, name, 2**64 - 1)
+
+    def test_tables(self):
+        self.keep(3, 2)
+        weights, mu, target = G
+        for kind, values, arguments in (
+            (TableSize, {"weights": 2}, ([1, 0], [0] * 3, [math.nan], -1, 2**61)),
+            (MuNonFinite, {"index": 2}, ([1, 0], [0, 0, math.inf, 0], [math.nan], -1, 2**61)),
+            (MuRange, {"index": 2}, ([1, 0], [0, 0, 1e16, 0], [math.nan], -1, 2**61)),
+            (WeightRange, {"index": 1}, ([1, 0], mu, [math.nan], -1, 2**61)),
+            (LengthMismatch, {"expected": 2, "found": 1}, (weights, mu, [math.nan], -1, 2**61)),
+            (NonFinite, {"index": 0}, (weights, mu, [math.nan, 0], -1, 2**61)),
+            (InvalidRadius, {"radius": -1.0}, (weights, mu, target, -1, 2**61)),
+            (BudgetRange, {"budget": 2**61}, (weights, mu, target, 2, 2**61)),
+        ):
+            self.unchanged(kind, values, self.names.nearest, 3, *arguments)
+        self.assertEqual(self.names.pick_up(3, 3), self.FOUND)
+
+    def test_sums(self):
+        self.keep(3, 2)
+        for budget in 2**60 - 1, 2**60, 2**64 - 4, 2**64 - 3, 2**64 - 2, 2**64 - 1:
+            self.unchanged(SumRange, {"sum": min(2 + budget, 2**64 - 1)}, self.names.pick_up, 3, budget)
+        # exactly 2^60
+        self.assertEqual(self.names.pick_up(3, 2**60 - 2), self.FOUND)
+
+    def drawn(self, draw, n=12):
+        """A table whose weights fall, with a target and a radius: a search of some thousand nodes."""
+        weights = [2.0**(9 - 9 * i // (n - 1)) * draw.uniform(1, 2) for i in range(n)]
+        return weights, [draw.uniform(-0.5, 0.5) for _ in range(n * n)], [draw.uniform(-10, 10) for _ in range(n)], 80
+
+    def test_slices(self):
+        """In slices of the budget a search gives what it gives in one, bit for bit."""
+        draw = random.Random(7)
+        for budget in 7, 100, 1000:
+            search = self.drawn(draw)
+            whole = nearest(*search, 10**5)
+            self.assertGreater(whole.nodes, 1000)
+            spent, call = budget, lambda: self.names.nearest(5, *search, budget)
+            while spent < whole.nodes:
+                with self.assertRaises(BudgetExhausted) as caught:
+                    call()
+                self.assertEqual(caught.exception.nodes, spent)
+                spent, call = spent + budget, lambda: self.names.pick_up(5, budget)
+            found = call()
+            self.assertEqual((found.point, found.nodes), (whole.point, whole.nodes))
+            self.assertEqual(bits(found.distance), bits(whole.distance))
+        self.assertEqual(self.names.held(), {})
+
+    def test_bytes(self):
+        self.keep(3, 2)
+        self.exhausted(1, 1.0, self.names.nearest, 8, *H, 1, 1)
+        stored = self.names.to_bytes()
+        self.assertEqual((type(stored), len(stored)), (bytes, snowgimmer.NAMES_SIZE))
+        for data in stored, bytearray(stored), memoryview(stored), array.array("Q", stored):
+            again = Names.from_bytes(data)
+            self.assertEqual((again.held(), again.to_bytes()), ({3: 2, 8: 2}, stored))
+            self.assertEqual(again.pick_up(3, 3), self.FOUND)
+            self.refused(OutsideRadius, {"radius": 1.0}, again.pick_up, 8, 1)
+        for again in copy.copy(self.names), copy.deepcopy(self.names), pickle.loads(pickle.dumps(self.names)):
+            self.assertEqual(again.pick_up(3, 3), self.FOUND)
+        self.assertEqual(self.names.to_bytes(), stored)
+        self.assertEqual(repr(self.names), "<Names held={3: 2, 8: 2}>")
+        self.names.clear()
+        self.assertEqual((self.names.held(), self.names.to_bytes()), ({}, bytes(snowgimmer.NAMES_SIZE)))
+
+    def run_contents(self, names, name, n):
+        """Whatever is in it, a name ends as a search, and tries at most as many nodes as the budget says."""
+        self.assertIn(n, range(1, 24))
+        with self.assertRaises(BudgetExhausted) as caught:
+            names.pick_up(name, 0)
+        nodes = caught.exception.nodes
+        try:
+            self.assertIn(names.pick_up(name, 50).nodes, range(nodes, nodes + 51))
+        except BudgetExhausted as refusal:
+            self.assertEqual(refusal.nodes, nodes + 50)
+        except SumRange as refusal:
+            self.assertEqual(refusal.sum, nodes + 50)
+        except OutsideRadius:
+            pass
+
+    def test_other_contents(self):
+        """Contents that the library has not written: bytes of one kind, and searches with elements that are drawn."""
+        for byte in 0, 1, 0x7F, 0xFF:
+            self.assertEqual(Names.from_bytes(bytes([byte]) * snowgimmer.NAMES_SIZE).held(), {})
+        draw, run = random.Random(8), 0
+        search = self.drawn(draw)
+        for name in range(1, 9):
+            with self.assertRaises(BudgetExhausted):
+                self.names.nearest(name, *search, 100 * name)
+        ends = [0, 1, 2, 11, 12, 22, 23, 24, 2**60, 2**63 - 1, 2**63, 2**64 - 1, 0x7FF8000000000000]
+        for _ in range(200):
+            elements = array.array("Q", self.names.to_bytes())
+            for _ in range(60):
+                elements[draw.randrange(len(elements))] = draw.choice(ends)
+            names = Names.from_bytes(elements)
+            for name, n in names.held().items():
+                self.run_contents(names, name, n)
+                run += 1
+        self.assertGreater(run, 400)
+
+    def test_block_lengths(self):
+        """6 of the block comes behind 25 and before 2 and 26, and tells the first slice that is wrong."""
+        right, kinds = [5168, 736, 768], [ctypes.c_double, ctypes.c_int64, ctypes.c_uint64]
+        table = [snowgimmer._values.doubles("", each) for each in ([1, 1], [0] * 3, [0, 0])]
+        lent = snowgimmer._lent([*table, (ctypes.c_int64 * 2)()])
+        for wrong, expected in enumerate(right):
+            for found in 0, expected - 1, expected + 1:
+                lengths = [*right[:wrong], found, *[0] * (2 - wrong)]
+                block = [(kind * length)() for kind, length in zip(kinds, lengths)]
+                for name, answer in (1, (6, expected, found, 0.0)), (0, (25, 0, 0, 0.0)), (9, (25, 0, 0, 0.0)):
+                    self.assertEqual(snowgimmer._answer("nearest_named", block, name, *lent, 2.0, 2), answer)
+                    self.assertEqual(snowgimmer._answer("pick_up", block, name, *lent[-2:], 2), answer)
+
+    def test_side_by_side(self):
+        """Threads that share the names take turns."""
+        whole = [(name, self.drawn(random.Random(name))) for name in range(1, 9)]
+        found = {}
+
+        def run(name, search):
+            try:
+                found[name] = self.names.nearest(name, *search, 10)
+            except BudgetExhausted:
+                while name not in found:
+                    try:
+                        found[name] = self.names.pick_up(name, 10)
+                    except BudgetExhausted:
+                        pass
+
+        threads = [threading.Thread(target=run, args=each) for each in whole]
+        for each in threads:
+            each.start()
+        for each in threads:
+            each.join()
+        self.assertEqual(found, {name: nearest(*search, 10**5) for name, search in whole})
+        self.assertEqual(self.names.held(), {})
+
+
 class Running(Test):
     """n from 24 to 64, where the centres are kept from node to node."""
 
@@ -396,6 +618,7 @@ class Running(Test):
             table, zero = ([1] * n, [0] * (n * n)), [0] * n
             calls = [(nearest_seeded, *table, zero, zero, 1, 100), (nearest_ml, *table, zero, 100),
                      (prepared_nearest_ml, *table, [0] * (n * n), [0] * (n * n), zero, 100),
+                     (Names().nearest, 1, *table, zero, 1, 2),
                      (nearest_plane, *table, zero), (triangular_distance, *table, zero, zero)]
             if n > 64:
                 calls += [(nearest, *table, zero, 1, 100), (list_points, *table, zero, 1, 100)]
@@ -669,7 +892,7 @@ class Refusals(Test):
 
     def test_one_class_a_number(self):
         kinds = snowgimmer.Refusal.__subclasses__()
-        self.assertEqual(sorted(kind.number for kind in kinds), [*range(2, 17), *range(18, 25)])
+        self.assertEqual(sorted(kind.number for kind in kinds), [*range(2, 17), *range(18, 28)])
         for kind in kinds:
             self.assertIs(getattr(snowgimmer, kind.__name__), kind)
             self.assertIn(kind.__name__, snowgimmer.__all__)
@@ -691,8 +914,11 @@ class Refusals(Test):
         self.assertEqual(named("snowgimmer_refusal"), {0: "Success", **kinds})
         self.assertEqual(named("snowgimmer_verdict"), {k: str(each) for k, each in enumerate(snowgimmer._VERDICTS)})
         self.assertIn(f'SNOWGIMMER_VERSION "{snowgimmer.__version__}"', header)
-        for name in "LARGEST_DIMENSION", "LARGEST_SEARCHED", "LARGEST_LIST", "LARGEST_FACTOR":
+        for name in "LARGEST_DIMENSION", "LARGEST_SEARCHED", "LARGEST_LIST", "LARGEST_FACTOR", "NAMES", "NAMES_SIZE":
             self.assertIn(f"SNOWGIMMER_{name} {getattr(snowgimmer, name)}\n", header)
+        for name, kind in snowgimmer._Block._fields_:
+            self.assertIn(f"SNOWGIMMER_NAMES_{name.upper()} {kind._length_}\n", header)
+        self.assertEqual(ctypes.sizeof(snowgimmer._Block), snowgimmer.NAMES_SIZE)
 
     def test_messages(self):
         with self.assertRaises(snowgimmer.Refusal) as caught:
@@ -700,7 +926,8 @@ class Refusals(Test):
         refusal = caught.exception
         self.assertEqual((refusal.number, refusal.nodes, refusal.radius), (15, 4, 0.25))
         self.assertEqual(str(refusal), "refused 15, BudgetExhausted: the budget ran out after 4 nodes, with the radius "
-                                       "at 0.25: a larger budget may do")
+                                       "at 0.25: a larger budget may do; a search under a name is kept, and pick_up "
+                                       "goes on with it")
         self.assertEqual(str(TableSize(weights=65)), "refused 2, TableSize: the table has 65 weights: nearest and "
                                                      "list_points take at most 64, every other function at most 23")
         self.assertEqual(str(TableSize(weights=24)), "refused 2, TableSize: the table has 24 weights: nearest and "
@@ -727,6 +954,13 @@ class Refusals(Test):
         self.assertEqual(str(MappedRange(column=1)), "refused 24, MappedRange: coordinate 1 of the mapped point is no "
                                                      "64-bit integer: see that the table is reduced, and that "
                                                      "transform and inverse are its own")
+        self.assertEqual(str(NameRange()), "refused 25, NameRange: the name is not from 1 to 8: give one of these")
+        self.assertEqual(str(NameEmpty()), "refused 26, NameEmpty: the name holds no search, or its search has ended: "
+                                           "Names.nearest keeps one there if its budget runs out")
+        self.assertEqual(str(SumRange(sum=2**60 + 1)), "refused 27, SumRange: the budgets of the search sum up to "
+                                                       "1152921504606846977, above 2^60: give a smaller one")
+        self.assertEqual(str(SumRange(sum=2**64 - 1)), "refused 27, SumRange: the budgets of the search sum up to "
+                                                       "2^64-1 or more, above 2^60: give a smaller one")
         self.assertIn("number 1 of the target or coefficients, given or transformed,", str(NonFinite(index=1)))
         for again in copy.copy(refusal), pickle.loads(pickle.dumps(refusal)):
             self.assertEqual((type(again), str(again), again.values), (BudgetExhausted, str(refusal), refusal.values))
@@ -775,6 +1009,27 @@ class Plain(Test):
             ):
                 matrices = {"transform": [1, 0, 0, 1], "inverse": [1, 0, 0, 1], name: matrix}
                 self.wrong(kind, text, lambda: prepared_nearest_ml([1, 1], [0] * 4, **matrices, target=[0, 0], budget=9))
+
+    def test_names(self):
+        names = Names()
+        for name in 3.0, True, "3", None, [3]:
+            self.wrong(TypeError, "name is", names.nearest, name, *G, 2, 2)
+            self.wrong(TypeError, "name is", names.pick_up, name, 2)
+        for budget in -1, 2**64:
+            self.wrong(ValueError, f"budget is {budget}", names.nearest, 3, *G, 2, budget)
+            self.wrong(ValueError, f"budget is {budget}", names.pick_up, 3, budget)
+        for budget in 9.0, True, "9", None, [9]:
+            self.wrong(TypeError, "budget is", names.pick_up, 3, budget)
+        self.wrong(TypeError, "radius is", names.nearest, 3, *G, None, 2)
+        self.wrong(ValueError, "mu has 1 rows: 2 are expected", names.nearest, 3, [1, 1], [[0] * 4], [0, 0], 2, 2)
+        for data in b"", bytes(53375), bytearray(53377):
+            self.wrong(ValueError, f"data has {len(data)} bytes: 53376 are expected", Names.from_bytes, data)
+        for data in 53376, "", None, [0] * 53376:
+            self.wrong(TypeError, "bytes are expected", Names.from_bytes, data)
+        self.wrong(TypeError, "argument", Names, 3)
+        with self.assertRaises(AttributeError):
+            names.name = 3
+        self.assertEqual(names.held(), {})
 
     def test_ratios(self):
         for name in "p", "q":
@@ -914,6 +1169,7 @@ class Numpy(Test):
         self.assertEqual(change_reference(numpy.array([1, 2]), numpy.int64(0)), (-1, 1))
         self.assertEqual(TriangleCheck().feed(numpy.int64(3), numpy.float64("nan")).refusal.index, 3)
         self.assertIs(ratio(numpy.array([1.0, 3.0]), numpy.float64(9), numpy.int64(3), numpy.int64(1)), Ratio.HOLDS)
+        self.assertEqual(Names().nearest(numpy.int64(3), *table, 1, numpy.int64(9)).point, (0, 0))
         self.wrong(TypeError, "of type bool", nearest, numpy.array([True]), [0], [0], 1, 9)
         self.wrong(TypeError, "real number", nearest, [numpy.True_], [0], [0], 1, 9)
         self.wrong(TypeError, "no dimension", nearest, numpy.array(1.0), [0], [0], 1, 9)

@@ -50,6 +50,11 @@ REFUSALS = {
                 "give a matrix of determinant 1 or -1 and its inverse, both row by row"),
     24: Refusal("MappedRange", "a coordinate of the mapped point is no 64-bit integer",
                 "see that the table is reduced, and that transform and inverse are its own"),
+    25: Refusal("NameRange", "the name of a search is not from 1 to 8", "give one of these"),
+    26: Refusal("NameEmpty", "the name holds no search",
+                "make one under it first; if its budget runs out it is kept there, until a pickup ends it"),
+    27: Refusal("SumRange", "the budgets of a search that is picked up sum up to more than 2^60",
+                "give a smaller budget"),
 }
 
 

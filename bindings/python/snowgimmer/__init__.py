@@ -59,6 +59,17 @@ refuses raises a `Refusal`, which has a class for each number.
 `prepared_nearest_ml` takes a target in the receiver's coordinates, and gives the point in them, by a table of
 reduced ones.
 
+`Names` keeps searches whose budget ran out, each under a name from 1 to 8, and goes on with them:
+
+    >>> names = Names()
+    >>> try:
+    ...     names.nearest(3, weights, mu, target, radius=2, budget=2)
+    ... except BudgetExhausted as refusal:
+    ...     print(refusal.values)
+    {'nodes': 2, 'radius': 0.25}
+    >>> names.pick_up(3, budget=3)
+    Nearest(point=(0, 1), nodes=5, distance=0.25)
+
 In positioning a point's integers are cycles relative to a reference satellite. If that is lost, take another:
 
     >>> change_reference((0, 1), reference=1)
@@ -69,33 +80,37 @@ A `TriangleCheck` checks a table while it arrives, entry by entry, from a file o
 
 import ctypes
 import enum
+import math
+import threading
 from typing import NamedTuple, Tuple
 
 from . import library as _library
 from . import values as _values
 from .refusals import (
     BudgetExhausted, BudgetRange, CandidateDistance, CandidateLength, CandidateOutside, ChangedRange, InvalidRadius,
-    LengthMismatch, ListFull, ListSize, MappedRange, MatrixRange, MuNonFinite, MuRange, NonFinite, NotInverse,
-    OutsideRadius, ReferenceIndex, Refusal, SettingRange, TableSize, WeightRange, WidenedRadius)
+    LengthMismatch, ListFull, ListSize, MappedRange, MatrixRange, MuNonFinite, MuRange, NameEmpty, NameRange, NonFinite,
+    NotInverse, OutsideRadius, ReferenceIndex, Refusal, SettingRange, SumRange, TableSize, WeightRange, WidenedRadius)
 from .refusals import refusal as _refusal
 
-__version__ = "0.10.0"
+__version__ = "0.11.0"
 
 LARGEST_DIMENSION = 23  #: the largest n of every function with a table but `nearest` and `list_points`
 LARGEST_SEARCHED = 64  #: the largest n of these two; since 0.10.0, before it was 23
 LARGEST_LIST = 4096
 LARGEST_BUDGET = 2**60
 LARGEST_FACTOR = 1000
+NAMES = 8  #: the largest name of a search in a `Names`; the smallest is 1
+NAMES_SIZE = 53376  #: how many bytes `Names.to_bytes` gives
 
 __all__ = [
     "nearest", "nearest_seeded", "nearest_ml", "prepared_nearest_ml", "list_points", "triangular_distance",
-    "nearest_plane", "round_coefficients", "round_away", "change_reference", "ratio", "TriangleCheck", "Nearest",
-    "Listed", "ListedPoint", "Plane", "Ratio", "LARGEST_DIMENSION", "LARGEST_SEARCHED", "LARGEST_LIST",
-    "LARGEST_BUDGET", "LARGEST_FACTOR",
+    "nearest_plane", "round_coefficients", "round_away", "change_reference", "ratio", "Names", "TriangleCheck",
+    "Nearest", "Listed", "ListedPoint", "Plane", "Ratio", "LARGEST_DIMENSION", "LARGEST_SEARCHED", "LARGEST_LIST",
+    "LARGEST_BUDGET", "LARGEST_FACTOR", "NAMES", "NAMES_SIZE",
     "Refusal", "TableSize", "MuNonFinite", "MuRange", "WeightRange", "LengthMismatch", "NonFinite", "InvalidRadius",
     "BudgetRange", "CandidateLength", "CandidateDistance", "CandidateOutside", "WidenedRadius", "ListSize",
     "BudgetExhausted", "OutsideRadius", "ListFull", "ReferenceIndex", "ChangedRange", "SettingRange", "MatrixRange",
-    "NotInverse", "MappedRange",
+    "NotInverse", "MappedRange", "NameRange", "NameEmpty", "SumRange",
 ]
 
 _loaded = _library.load()
@@ -105,7 +120,7 @@ class Nearest(NamedTuple):
     """What a nearest search gives. Since 0.3.0 with the distance, so that it unpacks into three."""
 
     point: Tuple[int, ...]  #: the nearest vector, coordinate 0 first
-    nodes: int  #: how many nodes the search tried
+    nodes: int  #: how many nodes the search tried; where it was picked up, all since its start
     #: the vector's computed distance, a square: exactly its `triangular_distance`; of `prepared_nearest_ml` that of the
     #: vector before mapping, in the table's coordinates; from n = 24 on the sum that the search came to
     distance: float
@@ -178,11 +193,15 @@ class _Table:
         return (ctypes.c_int64 * self.n)()
 
 
+def _lent(slices):
+    """Slices as the library takes them, each with its length."""
+    return [part for each in slices for part in (each, len(each))]
+
+
 def _answer(name, slices, *numbers):
     """Calls the library with slices, each with its length, and numbers; gives its answer and its report."""
     report = ctypes.c_uint64(), ctypes.c_uint64(), ctypes.c_double()
-    lent = [part for each in slices for part in (each, len(each))]
-    number = getattr(_loaded, f"snowgimmer_{name}")(*lent, *numbers, *map(ctypes.byref, report))
+    number = getattr(_loaded, f"snowgimmer_{name}")(*_lent(slices), *numbers, *map(ctypes.byref, report))
     return (number, *(each.value for each in report))
 
 
@@ -287,6 +306,149 @@ def prepared_nearest_ml(weights, mu, transform, inverse, target, budget):
     slices = table.weights, table.mu, transform, inverse, table.target, out
     nodes, _, distance = _call("prepared_nearest_ml", slices, budget)
     return Nearest(tuple(out), nodes, distance)
+
+
+def _name(name):
+    """A name for the library to judge; 0, which is none, in the place of one that is no unsigned 64-bit integer."""
+    found = _values.whole("name", name, -math.inf, math.inf)
+    return found if 0 <= found < 2**64 else 0
+
+
+class _Block(ctypes.Structure):
+    """struct snowgimmer_names of the header. It starts as zeros, which are eight empty names."""
+
+    _fields_ = [("reals", ctypes.c_double * 5168), ("integers", ctypes.c_int64 * 736),
+                ("counts", ctypes.c_uint64 * 768)]
+
+    def slices(self):
+        return self.reals, self.integers, self.counts
+
+
+class Names:
+    """Eight names, 1 to 8, each of which holds a nearest search whose budget ran out, or is empty.
+
+    A search that is kept goes on when there is time for it, and others may be made in between. A call can't be
+    interrupted, but a long search can be stopped between two of its pickups:
+
+        >>> def tried(call, *arguments):
+        ...     try:
+        ...         return call(*arguments)
+        ...     except BudgetExhausted as refusal:
+        ...         print(refusal.nodes, "nodes so far")
+        >>> names, table = Names(), ([1, 1], [[0, 0], [0.5, 0]], [0.25, 0.5])
+        >>> tried(names.nearest, 3, *table, 2, 2)
+        2 nodes so far
+        >>> tried(names.pick_up, 3, 2)
+        4 nodes so far
+        >>> names.held()
+        {3: 2}
+        >>> tried(names.pick_up, 3, 2)
+        Nearest(point=(0, 1), nodes=5, distance=0.25)
+        >>> names.held()
+        {}
+
+    Each has its own copy of table and target. `to_bytes` stores them all, and `from_bytes` brings them back, also on
+    another machine of the same byte order; `examples/long_search.py` does so. What is in the bytes is for the library
+    to read and write. A name is empty if its numbers fail a test: n is at most 23, the nodes are at most 2**60, at
+    least one level is open, the open levels rise and are below n, and none has made more steps than the nodes allow.
+    Any other contents, whoever wrote them, are run safely as the search that they say, and a call tries at most as many
+    nodes as its budget says. But what is found then is only what these numbers say.
+
+    A refusal leaves everything as it was. THE EXCEPTIONS: BudgetExhausted keeps the search, and OutsideRadius from
+    `pick_up` empties the name. Where two threads use the same `Names`, one waits for the other's call to end. If tables
+    and targets are confidential, `clear` it after use. Since 0.11.0.
+    """
+
+    __slots__ = ("_block", "_lock")
+
+    def __init__(self):
+        self._block, self._lock = _Block(), threading.Lock()
+
+    def _call(self, function, name, slices, *numbers):
+        """Calls the library with the block, a name, slices and numbers; gives the report, or raises the refusal."""
+        return _call(function, self._block.slices(), name, *_lent(slices), *numbers)
+
+    def _dimension(self, name):
+        """n of the search that a name holds: it is told where the output has no element, which is refused, since no
+        search with n = 0 is kept."""
+        try:
+            self._call("pick_up", name, [(ctypes.c_int64 * 0)()], 0)
+        except LengthMismatch as refusal:
+            return refusal.expected
+        raise AssertionError("the library keeps no search with n = 0")
+
+    def nearest(self, name, weights, mu, target, radius, budget):
+        """The nearest integer vector inside the radius, as a `Nearest`, by a search under a name. n is at most 23.
+
+        The answer is that of the function `nearest`. If the budget runs out, BudgetExhausted is raised, and the search
+        is kept under the name, in the place of what that held: `pick_up` goes on with it. If the search ends otherwise,
+        the name holds what it held, also an older search. With n = 0 nothing is ever kept, since the empty point is
+        found without a node.
+        Raises, in this order, NameRange if the name is not from 1 to 8, 2 to 9 for the table and the arguments, 2 if n
+        is above 23, BudgetExhausted, and OutsideRadius if no vector is inside the radius.
+        """
+        name, table = _name(name), _Table(weights, mu, target)
+        radius, budget, out = _values.double("radius", radius), _budget(budget), table.point()
+        with self._lock:
+            nodes, _, distance = self._call("nearest_named", name, (*table.slices(), out), radius, budget)
+        return Nearest(tuple(out), nodes, distance)
+
+    def pick_up(self, name, budget):
+        """Goes on with the search that a name holds, with a further budget, and gives a `Nearest`.
+
+        After any number of pickups the answer, the point, the nodes and the distance are those of one search that has
+        the sum of all budgets. A pickup takes the time of its own nodes, not that of the walk from its start. If the
+        budget runs out, BudgetExhausted is raised with all nodes so far, and the search is kept again. If it ends with
+        a point or with OutsideRadius, the name is empty then. A budget of 0 is taken, and tells how far the search is.
+        Raises, in this order, NameRange if the name is not from 1 to 8, NameEmpty if it holds no search, SumRange if
+        the sum of the budgets is above 2**60, BudgetExhausted, and OutsideRadius if no vector is inside the radius.
+        """
+        name, budget = _name(name), _budget(budget)
+        with self._lock:
+            out = (ctypes.c_int64 * self._dimension(name))()
+            nodes, _, distance = self._call("pick_up", name, [out], budget)
+        return Nearest(tuple(out), nodes, distance)
+
+    def held(self):
+        """The names that hold a search, with the n of each, as a dictionary."""
+        found = {}
+        with self._lock:
+            for name in range(1, NAMES + 1):
+                try:
+                    found[name] = self._dimension(name)
+                except NameEmpty:
+                    pass
+        return found
+
+    def clear(self):
+        """Empties every name, by zeros."""
+        with self._lock:
+            ctypes.memset(ctypes.byref(self._block), 0, NAMES_SIZE)
+
+    def to_bytes(self):
+        """All names as NAMES_SIZE bytes, in the machine's byte order, as struct snowgimmer_names has them in C."""
+        with self._lock:
+            return bytes(self._block)
+
+    @classmethod
+    def from_bytes(cls, data):
+        """The names of bytes that `to_bytes` gave. Raises ValueError if they are not NAMES_SIZE in number."""
+        try:
+            data = bytes(memoryview(data))
+        except TypeError:
+            raise TypeError(f"data is of type {type(data).__name__}: bytes are expected, as Names.to_bytes gives "
+                            "them") from None
+        if len(data) != NAMES_SIZE:
+            raise ValueError(f"data has {len(data)} bytes: {NAMES_SIZE} are expected, as Names.to_bytes gives them")
+        names = cls()
+        names._block = _Block.from_buffer_copy(data)
+        return names
+
+    def __reduce__(self):
+        return type(self).from_bytes, (self.to_bytes(),)
+
+    def __repr__(self):
+        return f"<Names held={self.held()}>"
 
 
 def list_points(weights, mu, target, radius, budget, places=256):

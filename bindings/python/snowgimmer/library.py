@@ -8,7 +8,9 @@ HERE = os.path.dirname(os.path.abspath(__file__))
 
 DOUBLES = (ctypes.POINTER(ctypes.c_double), ctypes.c_size_t)
 INTEGERS = (ctypes.POINTER(ctypes.c_int64), ctypes.c_size_t)
+COUNTS = (ctypes.POINTER(ctypes.c_uint64), ctypes.c_size_t)
 TABLE = DOUBLES + DOUBLES
+NAMED = DOUBLES + INTEGERS + COUNTS + (ctypes.c_uint64,)
 REPORT = (ctypes.POINTER(ctypes.c_uint64), ctypes.POINTER(ctypes.c_uint64), ctypes.POINTER(ctypes.c_double))
 RADIUS, BUDGET, INDEX = (ctypes.c_double,), (ctypes.c_uint64,), (ctypes.c_size_t,)
 VERDICT, ENTRY = (ctypes.c_uint32, ctypes.c_uint64), (ctypes.c_double,)
@@ -23,6 +25,8 @@ ARGUMENTS = {
     "nearest_seeded": TABLE + DOUBLES + INTEGERS + INTEGERS + RADIUS + BUDGET,
     "nearest_ml": TABLE + DOUBLES + INTEGERS + BUDGET,
     "prepared_nearest_ml": TABLE + INTEGERS + INTEGERS + DOUBLES + INTEGERS + BUDGET,
+    "nearest_named": NAMED + TABLE + DOUBLES + INTEGERS + RADIUS + BUDGET,
+    "pick_up": NAMED + INTEGERS + BUDGET,
     "list": TABLE + DOUBLES + DOUBLES + INTEGERS + RADIUS + BUDGET,
     "round": DOUBLES + INTEGERS,
     "nearest_plane": TABLE + DOUBLES + INTEGERS,

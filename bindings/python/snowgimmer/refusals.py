@@ -7,7 +7,8 @@ class Refusal(Exception):
     `number` is the refusal's number, `name` its name and `values` what it carries, by name; each value is also an
     attribute. Each number has a class of its own below; 17 is free, and no refusal has it.
 
-    No value is minus zero: where 12, 15 and 16 gave a radius of minus zero back before 0.5.0, they give 0.0.
+    No value is minus zero, but for a pickup from bytes that this module has not written: where 12, 15 and 16 gave a radius of minus zero back
+    before 0.5.0, they give 0.0.
     """
 
     number = 0
@@ -153,11 +154,15 @@ class ListSize(Refusal):
 
 
 class BudgetExhausted(Refusal):
-    """15: the budget ran out; the nodes tried and the radius that stood then."""
+    """15: the budget ran out; the nodes tried and the radius that stood then.
+
+    A search of `Names` is kept then; its nodes are all since its start.
+    """
 
     number = 15
     fields = ("nodes", "radius")
-    sentence = "the budget ran out after {nodes} nodes, with the radius at {radius}: a larger budget may do"
+    sentence = ("the budget ran out after {nodes} nodes, with the radius at {radius}: a larger budget may do; a search "
+                "under a name is kept, and pick_up goes on with it")
 
 
 class OutsideRadius(Refusal):
@@ -236,6 +241,33 @@ class MappedRange(Refusal):
     fields = ("column",)
     sentence = ("coordinate {column} of the mapped point is no 64-bit integer: see that the table is reduced, and that "
                 "transform and inverse are its own")
+
+
+class NameRange(Refusal):
+    """25: the name is not from 1 to 8."""
+
+    number = 25
+    sentence = "the name is not from 1 to 8: give one of these"
+
+
+class NameEmpty(Refusal):
+    """26: the name holds no search."""
+
+    number = 26
+    sentence = ("the name holds no search, or its search has ended: Names.nearest keeps one there if its budget runs "
+                "out")
+
+
+class SumRange(Refusal):
+    """27: the sum of a kept search's budgets, that of this pickup too, is above 2^60; the sum, or 2^64-1 if larger."""
+
+    number = 27
+    fields = ("sum",)
+
+    def text(self):
+        total = self.values["sum"]
+        told = "2^64-1 or more" if total == 2**64 - 1 else total
+        return f"the budgets of the search sum up to {told}, above 2^60: give a smaller one"
 
 
 BY_NUMBER = {kind.number: kind for kind in Refusal.__subclasses__()}

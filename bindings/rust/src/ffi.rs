@@ -72,6 +72,45 @@ unsafe extern "C" {
         real: *mut f64,
     ) -> u32;
 
+    pub(crate) fn snowgimmer_nearest_named(
+        reals: *mut f64,
+        reals_len: usize,
+        integers: *mut i64,
+        integers_len: usize,
+        counts: *mut u64,
+        counts_len: usize,
+        name: u64,
+        weights: *const f64,
+        weights_len: usize,
+        mu: *const f64,
+        mu_len: usize,
+        target: *const f64,
+        target_len: usize,
+        out: *mut i64,
+        out_len: usize,
+        radius: f64,
+        budget: u64,
+        first: *mut u64,
+        second: *mut u64,
+        real: *mut f64,
+    ) -> u32;
+
+    pub(crate) fn snowgimmer_pick_up(
+        reals: *mut f64,
+        reals_len: usize,
+        integers: *mut i64,
+        integers_len: usize,
+        counts: *mut u64,
+        counts_len: usize,
+        name: u64,
+        out: *mut i64,
+        out_len: usize,
+        budget: u64,
+        first: *mut u64,
+        second: *mut u64,
+        real: *mut f64,
+    ) -> u32;
+
     pub(crate) fn snowgimmer_list(
         weights: *const f64,
         weights_len: usize,

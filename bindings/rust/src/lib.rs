@@ -38,12 +38,15 @@
 //! the Rust original's, which has no [`change_reference`] and no [`ratio`]. The latter is the verdict on a list, whether
 //! its first point stands out. [`prepared_nearest_ml`], the original's `PreparedEnumerator::nearest_ml` with its matrices
 //! lent, takes a target in the receiver's coordinates and gives the point in them, by a table of reduced ones.
-//! [`TriangleCheck`] checks a table's entries one at a time, while the table is being received. Every one is that of the
-//! proved library: for all inputs its answer is the one that the library's contract fixes, and a refusal leaves every
-//! slice that it was lent as it was.
+//! [`TriangleCheck`] checks a table's entries one at a time, while the table is being received. [`nearest_named`] keeps a
+//! search whose budget runs out in [`Names`], which the caller owns, and [`pick_up`] goes on with it; the original has
+//! neither. Every one is that of the proved library: for all inputs its answer is the one that the library's contract
+//! fixes, and a refusal leaves every slice that it was lent as it was. **The exception** is [`Names`]: it is changed by
+//! [`Refusal::BudgetExhausted`] of [`nearest_named`] and [`pick_up`], since the search is kept there, and by
+//! [`Refusal::OutsideRadius`] of [`pick_up`], which empties the name.
 //!
-//! The crate needs no standard library, allocates nothing and keeps nothing between calls. The variable SNOWGIMMER_LIB
-//! names the folder of `libsnowgimmer.a`, or the file, while a program is built.
+//! The crate needs no standard library, allocates nothing, and keeps nothing between calls but in the caller's
+//! [`Names`]. The variable SNOWGIMMER_LIB names the folder of `libsnowgimmer.a`, or the file, while a program is built.
 //!
 //! # From n = 24 on
 //!
@@ -75,11 +78,13 @@
 #![warn(missing_docs)]
 
 mod ffi;
+mod names;
 mod ratio;
 mod refusal;
 mod table;
 mod triangle;
 
+pub use names::{Names, nearest_named, pick_up};
 pub use ratio::{Ratio, ratio};
 pub use refusal::Refusal;
 pub use table::{List, Nearest, Point, Table};
@@ -99,6 +104,12 @@ pub const LARGEST_BUDGET: u64 = 1 << 60;
 
 /// The largest p and q of a [`ratio()`].
 pub const LARGEST_FACTOR: u64 = 1000;
+
+/// The largest name under which a search is kept; the smallest is 1.
+pub const NAMES: u64 = 8;
+
+/// How many bytes a [`Names`] has.
+pub const NAMES_SIZE: usize = 53_376;
 
 /// What a call tells beside the slices that it is lent.
 #[derive(Default)]
@@ -132,7 +143,7 @@ pub fn round_away(x: f64) -> i64 {
 #[derive(Debug, Clone, Copy, PartialEq)]
 #[non_exhaustive]
 pub struct Found {
-    /// How many nodes the search tried.
+    /// How many nodes the search tried; where it was picked up, all since its start.
     pub nodes: u64,
     /// The point's computed distance, a square: exactly what [`triangular_distance`] gives for it, and for
     /// [`prepared_nearest_ml`] that of the point before mapping, in the table's coordinates. It is finite, and +0 where

@@ -31,7 +31,7 @@ pub enum Refusal {
         /// Its index.
         index: usize,
     },
-    /// 6: a slice is not as long as expected.
+    /// 6: a slice is not as long as expected; in `pick_up` the output, if it does not have the kept search's n.
     LengthMismatch {
         /// The length that it should have.
         expected: usize,
@@ -80,9 +80,9 @@ pub enum Refusal {
         /// How many distances there are.
         distances: usize,
     },
-    /// 15: the budget ran out.
+    /// 15: the budget ran out. A search under a name is kept then, and `pick_up` goes on with it.
     BudgetExhausted {
-        /// How many nodes were tried.
+        /// How many nodes were tried; of a search that was picked up, all since its start.
         nodes: u64,
         /// The radius that stood when the search stopped.
         radius: f64,
@@ -121,6 +121,15 @@ pub enum Refusal {
         /// Its column.
         column: usize,
     },
+    /// 25: the name is not from 1 to 8.
+    NameRange,
+    /// 26: the name holds no search.
+    NameEmpty,
+    /// 27: the sum of a kept search's budgets, that of this pickup too, is above 2^60.
+    SumRange {
+        /// The sum, or `u64::MAX` if it is larger than that.
+        sum: u64,
+    },
 }
 
 impl Refusal {
@@ -150,6 +159,9 @@ impl Refusal {
             22 => Self::MatrixRange { index: a },
             23 => Self::NotInverse,
             24 => Self::MappedRange { column: a },
+            25 => Self::NameRange,
+            26 => Self::NameEmpty,
+            27 => Self::SumRange { sum: first },
             _ => unreachable!("the library has no refusal {number}"),
         }
     }
@@ -180,6 +192,9 @@ impl Refusal {
             Self::MatrixRange { .. } => 22,
             Self::NotInverse => 23,
             Self::MappedRange { .. } => 24,
+            Self::NameRange => 25,
+            Self::NameEmpty => 26,
+            Self::SumRange { .. } => 27,
         }
     }
 }
@@ -222,7 +237,8 @@ impl fmt::Display for Refusal {
             Self::BudgetExhausted { nodes, radius } => {
                 write!(
                     f,
-                    "the budget ran out after {nodes} nodes, with the radius at {radius:?}: a larger budget may do"
+                    "the budget ran out after {nodes} nodes, with the radius at {radius:?}: a larger budget may do; a \
+                    search under a name is kept, and pick_up goes on with it"
                 )
             }
             Self::OutsideRadius { radius } => {
@@ -271,6 +287,20 @@ impl fmt::Display for Refusal {
                     "coordinate {c} of the mapped point is no i64: see that the table is reduced, and that transform \
                     and inverse are its own"
                 )
+            }
+            Self::NameRange => write!(f, "the name is not from 1 to 8: give one of these"),
+            Self::NameEmpty => {
+                write!(
+                    f,
+                    "the name holds no search, or its search has ended: nearest_named keeps one there if its budget \
+                    runs out"
+                )
+            }
+            Self::SumRange { sum: u64::MAX } => {
+                write!(f, "the budgets of the search sum up to 2^64-1 or more, above 2^60: give a smaller one")
+            }
+            Self::SumRange { sum } => {
+                write!(f, "the budgets of the search sum up to {sum}, above 2^60: give a smaller one")
             }
         }
     }

@@ -1,6 +1,6 @@
 //! A table with its calls as methods, and what they give.
 
-use crate::{Found, LARGEST_SEARCHED, Refusal};
+use crate::{Found, LARGEST_SEARCHED, Names, Refusal};
 use core::fmt;
 use core::ops::{Deref, DerefMut};
 
@@ -114,6 +114,23 @@ impl<'a> Table<'a> {
         self.search(|out| crate::prepared_nearest_ml(self.weights, self.mu, transform, inverse, target, out, budget))
     }
 
+    /// The nearest integer vector inside the radius, a square, by a search under a name from 1 to 8: if its budget runs
+    /// out it is kept there, and [`Names::pick_up`] goes on with it. n is at most 23. Since 0.11.0.
+    ///
+    /// # Errors
+    ///
+    /// Those of [`nearest_named`](crate::nearest_named).
+    pub fn nearest_named(
+        &self,
+        names: &mut Names,
+        name: u64,
+        target: &[f64],
+        radius: f64,
+        budget: u64,
+    ) -> Result<Nearest, Refusal> {
+        self.search(|out| crate::nearest_named(names, name, self.weights, self.mu, target, out, radius, budget))
+    }
+
     /// Every integer vector that is admitted at the radius, by distance and then coordinates, in the places lent: one of
     /// `distances`, at most 4,096, and n of `points` for each vector. n is at most 64;
     /// [from n = 24 on](crate#from-n--24-on) it is not promised that every such vector is listed, or no other. The call
@@ -175,9 +192,7 @@ impl<'a> Table<'a> {
 
     /// The point that a search writes, its nodes and its distance.
     fn search(&self, call: impl FnOnce(&mut [i64]) -> Result<Found, Refusal>) -> Result<Nearest, Refusal> {
-        let mut point = Point::zero(self.dimension());
-        let Found { nodes, distance } = call(&mut point)?;
-        Ok(Nearest { point, nodes, distance })
+        Nearest::written(self.dimension(), call)
     }
 }
 
@@ -187,12 +202,21 @@ impl<'a> Table<'a> {
 pub struct Nearest {
     /// The nearest vector.
     pub point: Point,
-    /// How many nodes the search tried.
+    /// How many nodes the search tried; where it was picked up, all since its start.
     pub nodes: u64,
     /// The vector's computed distance, a square: exactly what [`Table::triangular_distance`] gives for it, and for
     /// [`Table::prepared_nearest_ml`] that of the vector before mapping, in the table's coordinates. It is finite, and
     /// +0 where n is 0. From n = 24 on it is the sum that the search came to, from 0 to the radius. Since 0.3.0.
     pub distance: f64,
+}
+
+impl Nearest {
+    /// The point of n integers that a search writes, its nodes and its distance.
+    pub(crate) fn written(n: usize, call: impl FnOnce(&mut [i64]) -> Result<Found, Refusal>) -> Result<Self, Refusal> {
+        let mut point = Point::zero(n);
+        let Found { nodes, distance } = call(&mut point)?;
+        Ok(Self { point, nodes, distance })
+    }
 }
 
 /// A vector of up to 64 integers, coordinate 0 first: a slice by value.

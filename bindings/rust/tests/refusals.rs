@@ -267,7 +267,8 @@ fn told_in_words() {
     told(Refusal::InvalidRadius { radius: -1e300 }, "refused 8: the radius -1e300 is negative or not finite");
     told(
         Refusal::BudgetExhausted { nodes: 4, radius: 0.25 },
-        "refused 15: the budget ran out after 4 nodes, with the radius at 0.25: a larger budget may do",
+        "refused 15: the budget ran out after 4 nodes, with the radius at 0.25: a larger budget may do; a search under a \
+        name is kept, and pick_up goes on with it",
     );
     told(
         Refusal::ListFull { points: 5 },
@@ -305,6 +306,20 @@ fn told_in_words() {
         Refusal::MappedRange { column: 1 },
         "refused 24: coordinate 1 of the mapped point is no i64: see that the table is reduced, and that transform and \
         inverse are its own",
+    );
+    told(Refusal::NameRange, "refused 25: the name is not from 1 to 8: give one of these");
+    told(
+        Refusal::NameEmpty,
+        "refused 26: the name holds no search, or its search has ended: nearest_named keeps one there if its budget runs \
+        out",
+    );
+    told(
+        Refusal::SumRange { sum: (1 << 60) + 1 },
+        "refused 27: the budgets of the search sum up to 1152921504606846977, above 2^60: give a smaller one",
+    );
+    told(
+        Refusal::SumRange { sum: u64::MAX },
+        "refused 27: the budgets of the search sum up to 2^64-1 or more, above 2^60: give a smaller one",
     );
     let error: &dyn std::error::Error = &Refusal::OutsideRadius { radius: 1.0 };
     assert_eq!(error.to_string(), "refused 16: no vector is inside the radius 1.0: a larger one may do");

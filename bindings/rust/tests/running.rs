@@ -1,8 +1,8 @@
 //! nearest and list with n from 24 to 64, whose centres are kept from node to node, and the other calls there.
 
 use snowgimmer::{
-    LARGEST_LIST, LARGEST_SEARCHED, Refusal, Table, list, nearest, nearest_ml, nearest_plane, nearest_seeded,
-    prepared_nearest_ml, triangular_distance,
+    LARGEST_LIST, LARGEST_SEARCHED, Names, Refusal, Table, list, nearest, nearest_ml, nearest_named, nearest_plane,
+    nearest_seeded, prepared_nearest_ml, triangular_distance,
 };
 
 /// A table of n weights of 1 and mu 0, but for the entry (1, 0), with a target of 0, but for its first numbers.
@@ -115,6 +115,7 @@ fn sizes() {
     assert_eq!(nearest_seeded(&w, &mu, &t, &mut out, &[0; 24], 99.0, 100), Err(refusal));
     assert_eq!(nearest_ml(&w, &mu, &t, &mut out, 100), Err(refusal));
     assert_eq!(prepared_nearest_ml(&w, &mu, &matrix, &matrix, &t, &mut out, 100), Err(refusal));
+    assert_eq!(nearest_named(&mut Names::new(), 1, &w, &mu, &t, &mut out, 0.5, 2), Err(refusal));
     assert_eq!(nearest_plane(&w, &mu, &mut coefficients, &mut out), Err(refusal));
     assert_eq!(triangular_distance(&w, &mu, &t, &out), Err(refusal));
     assert_eq!(nearest(&w, &mu, &t, &mut out, 0.5, 100).map(|found| found.nodes), Ok(24));

@@ -1,7 +1,9 @@
 //! The stack that the calls need. At n = 23: 1 MB holds a list, and 68 kB a search. At n = 64: 2 MB hold a list, and 64 kB
 //! a search.
 
-use snowgimmer::{Found, Refusal, list, nearest, nearest_ml, nearest_seeded, prepared_nearest_ml};
+use snowgimmer::{
+    Found, Names, Refusal, list, nearest, nearest_ml, nearest_named, nearest_seeded, pick_up, prepared_nearest_ml,
+};
 use std::thread;
 
 const N: usize = 23;
@@ -36,6 +38,17 @@ fn searches() {
     search(68 << 10, |out| nearest_seeded(&WEIGHTS, &MU, &TARGET, out, &ZERO, 0.0, 1000));
     search(68 << 10, |out| nearest_ml(&WEIGHTS, &MU, &TARGET, out, 1000));
     search(68 << 10, |out| prepared_nearest_ml(&WEIGHTS, &MU, &IDENTITY, &IDENTITY, &TARGET, out, 1000));
+}
+
+/// The block is not on the stack of the call.
+#[test]
+fn names() {
+    let (mut names, mut out) = (Box::new(Names::new()), [1; N]);
+    let exhausted = Refusal::BudgetExhausted { nodes: 9, radius: 0.0 };
+    let kept = within(68 << 10, || nearest_named(&mut names, 1, &WEIGHTS, &MU, &TARGET, &mut out, 0.0, 9));
+    assert_eq!((kept, out), (Err(exhausted), [1; N]));
+    search(68 << 10, |out| pick_up(&mut names, 1, out, 1000));
+    search(68 << 10, |out| nearest_named(&mut names, 1, &WEIGHTS, &MU, &TARGET, out, 0.0, 1000));
 }
 
 #[test]

@@ -7,6 +7,7 @@ ghost use lib.IntN.{pos, negℤ, _+ℤ_, _-ℤ_};
 ghost use Rattle.definitions.specs.Zigzag as Z;
 ghost use Rattle.children.specs.View.{zigzag, atStep, trialOf, levelOf, childOf, movedOf, testedOf, FirstStep, LastStep};
 use distance::term;
+use rounding::round_away;
 use rounding::rounded_away;
 use rounding::rounded_away_large;
 use rounding::to_double;
@@ -352,6 +353,87 @@ pub fn next_large(g: Children) -> Child
     let positive = upward(g.step, positive_first);
     let skipped = done(positive, g.positive_done, g.negative_done);
     tried_large(
+        g,
+        open_step(g.step, skipped),
+        open_direction(positive, skipped),
+    )
+}
+
+// `Children::new` and `Children::next` for the walk that can be put down. As above, its own text keeps the others inlined.
+// It enters few levels, so the rounding of a centre is the plain one.
+pub fn new_kept(center: f64, remaining: f64, weight: f64) -> Level
+    ensures { λ r. ⌜ r ≡ levelOf (Z.start center remaining weight) ⌝ }
+{
+    let nearest = round_away(center);
+    if term(weight, center, to_double(nearest)) <= remaining {
+        return Level::Open(Children {
+            center,
+            remaining,
+            weight,
+            nearest,
+            step: 1,
+            emitted_nearest: false,
+            positive_done: false,
+            negative_done: false,
+        });
+    }
+    Level::Closed
+}
+
+// As `Children::last_tried`.
+fn last_tried_kept(g: Children, step: u64, positive: bool) -> Child
+    requires { ⌜ LastStep g step positive ⌝ }
+    ensures { λ r. ⌜ r ≡ childOf (Z.secondStep (Z.none (atStep g step (not positive || g .«positive_done») (positive || g .«negative_done»)))) ⌝ }
+{
+    if done(positive, g.positive_done, g.negative_done) {
+        return Child::End;
+    }
+    let Tested::Passed(last) = g.tested((step + 1) / 2, positive) else {
+        return Child::End;
+    };
+    Child::At(
+        last,
+        Children {
+            step: step + 1,
+            positive_done: either(!positive, g.positive_done),
+            negative_done: either(positive, g.negative_done),
+            ..g
+        },
+    )
+}
+
+// As `Children::tried`.
+fn tried_kept(g: Children, step: u64, positive: bool) -> Child
+    requires { ⌜ FirstStep g step positive ⌝ }
+    ensures { λ r. ⌜ r ≡ childOf (Z.secondStep (Z.oneStep (atStep g step (g .«positive_done») (g .«negative_done»)))) ⌝ }
+{
+    let Tested::Passed(t) = g.tested((step + 1) / 2, positive) else {
+        return last_tried_kept(g, step + 1, !positive);
+    };
+    Child::At(
+        t,
+        Children {
+            step: step + 1,
+            ..g
+        },
+    )
+}
+
+// As `Children::next`.
+pub fn next_kept(g: Children) -> Child
+    requires { ⌜ g .step < 2 ^ 62 ⌝ }
+    ensures { λ r. ⌜ r ≡ childOf (Z.next (zigzag g)) ⌝ }
+{
+    if !g.emitted_nearest {
+        return g.first();
+    }
+    let positive_first = g.center >= to_double(g.nearest);
+    if both(g.positive_done, g.negative_done) {
+        return Child::End;
+    }
+    let positive = upward(g.step, positive_first);
+    let skipped = done(positive, g.positive_done, g.negative_done);
+    tried_kept(
         g,
         open_step(g.step, skipped),
         open_direction(positive, skipped),

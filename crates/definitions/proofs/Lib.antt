@@ -2,12 +2,14 @@
 pub mod Cases
 pub mod PreparedCases
 pub mod RunningCases
+pub mod KeptCases
 pub mod Distances
 pub mod Admissions
 pub mod Steps
 pub mod Zigzags
 pub mod Turns
 pub mod Fuel
+pub mod Machine
 pub mod Leaves
 pub mod Running
 pub mod ListedOrder
@@ -19,6 +21,8 @@ pub mod Tables
 pub mod Passed
 pub mod Answers
 pub mod Prepared
+pub mod Block
+pub mod Named
 pub mod HandedOn
 pub mod Settings
 pub mod Ratios

@@ -229,3 +229,30 @@ next-follows g z h e = subst (λ (x : Next). Follows 2 g (generator x)) e (by (g
 -- a child takes at most two steps
 pub next-step : (g : Zigzag) (z : ℤ) (h : Zigzag) → next g ≡ child z h → h .step ≤ g .step + 2
 next-step g z h e = next-follows g z h e .step
+
+-- ---- a child's generator has handed out the nearest integer
+abbrev Emitted : Next → Type 0
+Emitted (child z h) = h .emittedNearest ≡ true
+Emitted (none h) = Unit {0}
+
+emitted-cond : (b : Bool) (x y : Next) → Emitted x → Emitted y → Emitted (cond b x y)
+emitted-cond true x y p q = p
+emitted-cond false x y p q = q
+
+one-emits : (g : Zigzag) → Emitted (oneStep g)
+one-emits g = rw (step-is g) (emitted-cond (directionDone g (upward g)) _ _ tt (emitted-cond (isI64 (candidate g) && passesTest g (candidate g)) _ _ refl tt))
+
+steps-emit : (k : ℕ) (g : Zigzag) → Emitted (steps k g)
+steps-emit zero g = rw (steps-zero g) tt
+steps-emit (suc k) g = rw (steps-suc k g) (emitted-cond (bothDone g) _ _ tt (further (steps-emit k) (oneStep g) (one-emits g)))
+  where
+    further : ((h : Zigzag) → Emitted (steps k h)) → (x : Next) → Emitted x → Emitted (goOn (steps k) x)
+    further all (child z h) p = p
+    further all (none h) p = all h
+
+pub next-emits : (g : Zigzag) (z : ℤ) (h : Zigzag) → next g ≡ child z h → h .emittedNearest ≡ true
+next-emits g z h e = subst Emitted e (by (g .emittedNearest) refl)
+  where
+    by : (b : Bool) → g .emittedNearest ≡ b → Emitted (next g)
+    by true t = rw (sym (next-steps g t)) (steps-emit 2 g)
+    by false t = rw (next-first g t) refl

@@ -7,6 +7,7 @@ pub mod Admitted
 pub mod Zigzag
 pub mod Walk
 pub mod Nearest
+pub mod Machine
 pub mod Listing
 pub mod Running
 pub mod Rows
@@ -16,6 +17,9 @@ pub mod Checks
 pub mod Entries
 pub mod Calls
 pub mod Prepared
+pub mod Kept
+pub mod Block
+pub mod Named
 pub mod Settings
 pub mod Ratio
 pub mod Reference

@@ -105,3 +105,15 @@ notInverse = record { number = 23; values = [] }
 -- 24 (the first column)
 abbrev pub mappedRange : ℕ → Refusal
 mappedRange column = record { number = 24; values = whole column ∷ [] }
+
+-- 25 (nothing)
+abbrev pub nameRange : Refusal
+nameRange = record { number = 25; values = [] }
+
+-- 26 (nothing)
+abbrev pub nameEmpty : Refusal
+nameEmpty = record { number = 26; values = [] }
+
+-- 27 (the sum, or the largest number that can be told)
+abbrev pub sumRange : ℕ → Refusal
+sumRange sum = record { number = 27; values = whole sum ∷ [] }

@@ -1,12 +1,11 @@
 -- Writing over the first places of a list: one more, or a run of them more. Assumes nothing.
-use mathlib.Core.Path.{_≡_, refl, ap, sym, _∙_}
-use mathlib.Core.List.{List, [], _∷_, _++_, map}
+use mathlib.Core.Path.{_≡_, ap, sym, _∙_}
+use mathlib.Core.List.{List, [], _∷_, _++_}
 use Prim.Native.Nat.{ℕ, suc, _+_, _-_, _≤_, _<_}
 use native.Mathlib.Nat.{le-of-eq}
-use native.Mathlib.Numerals.{add-one}
 use native.Mathlib.Omega.{arith}
-use lib.ListN.{length, getD, set, take, drop, length-append, length-map, length-take, length-drop}
-use lib.Seq.{take-all, append-snoc, take-suc, drop-cons, set-at, take-at, drop-append-add, drop-drop, length-take-le}
+use lib.ListN.{length, getD, set, take, drop, length-append, length-take, length-drop}
+use lib.Seq.{take-all, append-snoc, drop-cons, set-at, take-at, drop-append-add, drop-drop, length-take-le}
 use borrow.Rule.Slice.PartMut.{midOf, putMid}
 use Rattle.lists.specs.Over.{over}
 use Rattle.lists.proofs.Over.{over-length}
@@ -52,15 +51,3 @@ module _ {A : Type 0} (old src : List A) (at from n : ℕ) (new : List A) (room 
     copied-part old part at n new room part-length copied ∙ ap (over old at) part-take,
     over-length old at (take n (drop from src)) (simp (length-take, length-drop) (omega arith)),
   )
-
-module _ {A B : Type 0} (f : A → B) where
-  map-snoc : (xs : List A) (x : A) → map f (xs ++ x ∷ []) ≡ map f xs ++ f x ∷ []
-  map-snoc [] x = refl
-  map-snoc (y ∷ xs) x = ap (λ (l : List B). f y ∷ l) (map-snoc xs x)
-
-  -- the images of one element more
-  pub mapped-more : (xs : List A) (i : ℕ) (d : A) → i < length xs → map f (take (i + 1) xs) ≡ map f (take i xs) ++ f (getD xs i d) ∷ []
-  mapped-more xs i d h = ap (λ (k : ℕ). map f (take k xs)) (add-one i) ∙ ap (map f) (take-suc xs i d h) ∙ map-snoc (take i xs) (getD xs i d)
-
-  pub mapped-length : (xs : List A) (i : ℕ) → i ≤ length xs → length (map f (take i xs)) ≡ i
-  mapped-length xs i h = length-map (take i xs) f ∙ length-take-le i xs h

@@ -2,6 +2,9 @@
 pub mod Each
 pub mod Permutations
 pub mod Places
+pub mod Segments
+pub mod Replaced
+pub mod Parts
 pub mod Copies
 pub mod Filling
 pub mod Repeats

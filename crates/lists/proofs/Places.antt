@@ -38,3 +38,7 @@ module _ {A : Type 0} (n : ℕ) (xs : List A) (fits : n ≤ length xs) where
 -- lists that agree from a level up agree from the next
 pub places-next : {A : Type 0} (n d : ℕ) (xs ys : List A) → places n d xs ≡ places n d ys → places n (d + 1) xs ≡ places n (d + 1) ys
 places-next {A} n d xs ys e = sym (drop-drop 1 d (take n xs)) ∙ ap (λ (l : List A). drop 1 l) e ∙ drop-drop 1 d (take n ys)
+
+-- the places above one that is set stay
+pub places-other : {A : Type 0} (n : ℕ) (xs : List A) (l d : ℕ) (a : A) → l < n → l < d → places n d (set xs l a) ≡ places n d xs
+places-other {A} n xs l d a h g = ap (λ (l : List A). drop d l) (take-set-lt n xs l a h) ∙ drop-set-lt d (take n xs) l a g

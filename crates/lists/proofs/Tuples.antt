@@ -14,6 +14,9 @@ seventh p = sixth (p .1)
 abbrev pub eighth : {A B C D E F G H I : Type 0} → A × (B × (C × (D × (E × (F × (G × (H × I))))))) → H
 eighth p = seventh (p .1)
 
+abbrev pub ninth : {A B C D E F G H I J : Type 0} → A × (B × (C × (D × (E × (F × (G × (H × (I × J)))))))) → I
+ninth p = eighth (p .1)
+
 abbrev pub tenth : {A B C D E F G H I J K : Type 0} → A × (B × (C × (D × (E × (F × (G × (H × (I × (J × K))))))))) → J
 tenth p = eighth (p .1 .1)
 

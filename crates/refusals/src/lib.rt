@@ -51,6 +51,12 @@ pub enum Refusal {
     NotInverse,
     // 24: a coordinate of the mapped point is no i64 (its column).
     MappedRange(usize),
+    // 25: the name is not from 1 to 8.
+    NameRange,
+    // 26: the name holds no search.
+    NameEmpty,
+    // 27: the sum of a kept search's budgets is above 2^60 (the sum, or 2^64-1 if it is larger).
+    SumRange(u64),
 }
 
 // What a check says.
@@ -167,5 +173,8 @@ pub fn numbers(e: Refusal) -> Carried
         Refusal::MatrixRange(i) => whole(22, i as u64),
         Refusal::NotInverse => nothing(23),
         Refusal::MappedRange(i) => whole(24, i as u64),
+        Refusal::NameRange => nothing(25),
+        Refusal::NameEmpty => nothing(26),
+        Refusal::SumRange(s) => whole(27, s),
     }
 }

@@ -13,12 +13,15 @@ use Rattle.definitions.specs.Refusals.{Refusal, whole, real}
 use Rattle.definitions.specs.Checks.{Verdict, pass, refuse}
 use Rattle.definitions.specs.Calls as C
 use Rattle.definitions.specs.Prepared.{mappedPoint, transformedOf, preparedNearestMl}
+use Rattle.definitions.specs.Block.{Block}
+use Rattle.definitions.specs.Named.{nearestNamed, blockAfterNamed, pickUp, blockAfterPickUp}
 use Rattle.definitions.specs.Ratio.{ratioCall}
 use Rattle.definitions.specs.Reference.{changeReference, changeOutput}
 use Rattle.definitions.specs.Entries.{Entry, fed, givenVerdict}
 use Rattle.theorems.specs.Promises.{NearestPromises, SeededPromises, MlPromises, DistancePromises, ListPromises, RoundPromises, PlanePromises}
 use Rattle.theorems.specs.Running.{NearestRunning, ListRunning}
 use Rattle.theorems.specs.Prepared.{PreparedPromises}
+use Rattle.theorems.specs.Kept.{NamedPromises, PickUpPromises}
 use Rattle.theorems.specs.Doubles.{ofDoubles}
 use Rattle.theorems.specs.Settings.{RightP, RightQ}
 use Rattle.theorems.specs.Ratios.{Holds, Fails, Open, None, MeaningPromised, RatioCallPromises}
@@ -148,3 +151,19 @@ pub record PreparedTold (t : Table) (transform inverse : List ℤ) (target : Lis
   -- the distance told is that of out′ mapped back, from the transformed target
   pub distance-agrees : (a : C.NearestPoint) → preparedNearestMl t transform inverse target out budget ≡ C.found a →
       C.pointDistance t (transformedOf t inverse target) (mappedPoint (dimension t) inverse out′) ≡ C.found (a .distance)
+
+-- b is the block at entry, b′ at exit
+pub record NamedTold (b : Block) (name : ℕ) (t : Table) (target : List Float) (out : List ℤ) (radius : Float) (budget : ℕ) (r : Report) (out′ : List ℤ) (b′ : Block) : Type 0 where
+  pub tells : r ≡ ofNearest (nearestNamed b name t target out radius budget)
+  pub told-as : PointTold (nearestNamed b name t target out radius budget) r
+  pub writes : out′ ≡ C.nearestOutput (nearestNamed b name t target out radius budget) out
+  pub leaves : b′ ≡ blockAfterNamed b name t target out radius budget
+  pub promises : NamedPromises b name t target out radius budget (nearestNamed b name t target out radius budget) out′ b′
+  pub distance-agrees : DistanceAgrees t target (nearestNamed b name t target out radius budget) out′
+
+pub record PickUpTold (b : Block) (name : ℕ) (out : List ℤ) (budget : ℕ) (r : Report) (out′ : List ℤ) (b′ : Block) : Type 0 where
+  pub tells : r ≡ ofNearest (pickUp b name out budget)
+  pub told-as : PointTold (pickUp b name out budget) r
+  pub writes : out′ ≡ C.nearestOutput (pickUp b name out budget) out
+  pub leaves : b′ ≡ blockAfterPickUp b name out budget
+  pub promises : PickUpPromises b name out budget (pickUp b name out budget) out′ b′

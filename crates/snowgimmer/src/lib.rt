@@ -1,13 +1,15 @@
 // The library's calls for C and Rust. Each answers 0 or a refusal's number (the last one also another number that it is
 // handed), and writes its report through first, second and real: what a success tells, or what the refusal carries. A
-// refusal leaves every lent slice as it was.
+// refusal leaves every lent slice as it was, but for the block of kept searches: 15 keeps a search in it, and 16 of a pickup
+// empties a name.
 ghost use mathlib.Core.Path.{_≡_};
 ghost use Rattle.rounding.specs.Integers.{roundAway};
 ghost use Rattle.definitions.specs.Lent.{atEntry, atExit, tableAt};
 ghost use Rattle.definitions.specs.Calls as C;
 ghost use Rattle.definitions.specs.Entries.{entryOf};
+ghost use Rattle.parts.specs.Parts.{block};
 ghost use Rattle.snowgimmer.specs.Reports.{toldAt};
-ghost use Rattle.snowgimmer.specs.Told.{DistanceTold, NearestTold, SeededTold, MlTold, PreparedTold, ListTold, RatioTold, RoundTold, PlaneTold, ChangeTold, EntryTold};
+ghost use Rattle.snowgimmer.specs.Told.{DistanceTold, NearestTold, SeededTold, MlTold, PreparedTold, ListTold, RatioTold, RoundTold, PlaneTold, ChangeTold, EntryTold, NamedTold, PickUpTold};
 
 mod entries;
 mod integers;
@@ -18,6 +20,8 @@ use babai::round;
 use entries::entry_report;
 use enumerate::nearest;
 use integers::read_integers;
+use kept::nearest_named;
+use kept::pick_up;
 use listing::list;
 use prepared::prepared_nearest_ml;
 use ratio::ratio_of;
@@ -128,6 +132,65 @@ pub extern "C" fn snowgimmer_prepared_nearest_ml(
     ensures { λ r. ⌜ PreparedTold (tableAt weights mu) (atEntry transform) (atEntry inverse) (atEntry target) (atEntry out) budget (toldAt r first second real) (atExit out) ⌝ }
 {
     let answer = prepared_nearest_ml(weights, mu, transform, inverse, target, out, budget);
+    stored(nearest_report(answer), first, second, real)
+}
+
+// snowgimmer_nearest for n up to 23, with a name from 1 to 8: a search whose budget runs out is kept in the block, which is
+// lent as three slices, under the name, with its own copy of table and target, in the place of what was there.
+//
+// Refused: 25, 6 of the block's slices, 2 to 9, 15 and 16, in this order. 15 alone changes the block.
+#[no_mangle]
+pub extern "C" fn snowgimmer_nearest_named(
+    reals: &mut [f64],
+    integers: &mut [i64],
+    counts: &mut [u64],
+    name: u64,
+    weights: &[f64],
+    mu: &[f64],
+    target: &[f64],
+    out: &mut [i64],
+    radius: f64,
+    budget: u64,
+    first: &mut u64,
+    second: &mut u64,
+    real: &mut f64,
+) -> u32
+    ensures { λ r. ⌜ NamedTold (block (atEntry reals) (atEntry integers) (atEntry counts)) name (tableAt weights mu) (atEntry target) (atEntry out) radius budget (toldAt r first second real) (atExit out) (block (atExit reals) (atExit integers) (atExit counts)) ⌝ }
+{
+    let answer = nearest_named(
+        reals,
+        integers,
+        counts,
+        name,
+        weights,
+        mu,
+        target,
+        out,
+        radius,
+        budget,
+    );
+    stored(nearest_report(answer), first, second, real)
+}
+
+// The search that the name holds goes on by a further budget: the answer is that of one search with all its budgets, and
+// first is the number of all its nodes. If it is over the name is emptied, else it is kept again.
+//
+// Refused: 25, 6 of the block's slices, 26, 6 of out, 27, 15 and 16, in this order. 15 and 16 alone change the block.
+#[no_mangle]
+pub extern "C" fn snowgimmer_pick_up(
+    reals: &mut [f64],
+    integers: &mut [i64],
+    counts: &mut [u64],
+    name: u64,
+    out: &mut [i64],
+    budget: u64,
+    first: &mut u64,
+    second: &mut u64,
+    real: &mut f64,
+) -> u32
+    ensures { λ r. ⌜ PickUpTold (block (atEntry reals) (atEntry integers) (atEntry counts)) name (atEntry out) budget (toldAt r first second real) (atExit out) (block (atExit reals) (atExit integers) (atExit counts)) ⌝ }
+{
+    let answer = pick_up(reals, integers, counts, name, out, budget);
     stored(nearest_report(answer), first, second, real)
 }
 

@@ -124,12 +124,12 @@ unfolding finiteCheck
 coefficients-finite coefficients q i below = is-finite (coordinate coefficients i) (passed (λ k. notFinite (coordinate coefficients k)) nonFinite (length coefficients) q i below)
 
 -- 8 and 9
-radius-accepted : (R : Float) (budget : ℕ) → radiusCheck R ≡ pass → budgetCheck budget ≡ pass → RadiusAccepted R budget
+pub radius-accepted : (R : Float) (budget : ℕ) → radiusCheck R ≡ pass → budgetCheck budget ≡ pass → RadiusAccepted R budget
 radius-accepted R budget p q =
     let r = radius-passed R p in
     record { is-finite = is-finite R (r .0); not-negative = of-false (r .1); budget-most = budget-passed budget q }
 
-radius-pass : (R : Float) (budget : ℕ) → RadiusAccepted R budget → radiusCheck R ≡ pass
+pub radius-pass : (R : Float) (budget : ℕ) → RadiusAccepted R budget → radiusCheck R ≡ pass
 radius-pass R budget a = radius-passes R (finite-passes R (a .is-finite)) (denied (lt R plusZero) (a .not-negative))
 
 -- 10 to 13
@@ -165,7 +165,7 @@ module _ (largest : ℕ) (t : Table) (target : List Float) (out : List ℤ) wher
   search-accepted p2 p3 p4 p5 a b p7 =
       record { table-target = target-accepted largest t target (table-passed largest t p2 p3 p4 p5) a p7; output-length = sym (length-passed (dimension t) (length out) b) }
 
-  search-passing : SearchAccepted largest t target out → Passing (searchChecks largest t target out)
+  pub search-passing : SearchAccepted largest t target out → Passing (searchChecks largest t target out)
   unfolding searchChecks tableChecks
   search-passing a =
       let table = a .table-target .table in

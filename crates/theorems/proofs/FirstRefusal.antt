@@ -45,6 +45,10 @@ first-refuses (passes-here f) = first-refuses f
 pub none-passes : (vs : List Verdict) → NoneFits vs → firstRefusal vs ≡ pass
 none-passes vs none = ⊎-elim (λ some. absurd (none (some .0) (first-fits (some .1)))) (λ other. other .1) (decision vs)
 
+-- a list of checks of which one fits does not pass
+pub fitting-refuses : (vs : List Verdict) (e : Refusal) → Fits vs e → (d : Refusal) × (firstRefusal vs ≡ refuse d)
+fitting-refuses vs e m = ⊎-elim (λ some. (some .0, some .2)) (λ other. absurd (other .0 e m)) (decision vs)
+
 -- ---- where the numbers stay below another
 abbrev pub allBelow : ℕ → List ℕ → Bool
 allBelow top [] = true

@@ -61,6 +61,21 @@ pub mod Ratios
 pub mod Settings
 pub mod RatioCalls
 pub mod References
+-- ---- searches that are put down and picked up
+pub mod Resumed
+pub mod PickedUp
+pub mod KeptWalks
+pub mod Written
+pub mod KeptParts
+pub mod SoundParts
+pub mod KeptBlocks
+pub mod KeptSearches
+pub mod KeptChecks
+pub mod NamedCalls
+pub mod PickUpCalls
+pub mod KeptDecides
+pub mod KeptLists
+pub mod KeptPromises
 -- ---- entries that are not read
 pub mod SameDistances
 pub mod SameWalks

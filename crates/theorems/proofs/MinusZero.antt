@@ -67,7 +67,7 @@ faulty fault f x t z = false≢true (sym f ∙ ap fault (sym z) ∙ t)
 pub length-clear : (expected found : ℕ) → Clear (lengthCheck expected found)
 length-clear expected found = by-test (not (eqb expected found)) (lengthMismatch expected found) (λ q. a-whole one-whole)
 
-radius-clear : (R : Float) → Clear (radiusCheck R)
+pub radius-clear : (R : Float) → Clear (radiusCheck R)
 unfolding radiusCheck
 radius-clear R = by-test (notFinite R || lt R plusZero) (invalidRadius R) (λ q. one-double (faulty (λ x. notFinite x || lt x plusZero) minus-zero-passes R q))
 
@@ -92,7 +92,7 @@ table-clear largest t rest =
     more (by-test (ltb largest n || not (eqb (length (t .mu)) (n * n))) (tableSize n) (λ q. one-whole))
     (more (by-index (mu-finite-first t)) (more (by-index (mu-range-first t)) (more (by-index (weight-first t)) rest)))
 
-search-clear : (largest : ℕ) (t : Table) (target : List Float) (out : List ℤ) {vs : List Verdict} → All Clear vs → All Clear (searchChecks largest t target out ++ vs)
+pub search-clear : (largest : ℕ) (t : Table) (target : List Float) (out : List ℤ) {vs : List Verdict} → All Clear vs → All Clear (searchChecks largest t target out ++ vs)
 unfolding searchChecks tableChecks
 search-clear largest t target out rest =
     let n = dimension t in

@@ -11,6 +11,7 @@ pub mod Answers
 pub mod Accepted
 pub mod Promises
 pub mod Prepared
+pub mod Kept
 pub mod Settings
 pub mod Ratios
 pub mod Reference

@@ -2,6 +2,7 @@
 
 use crate::answer::{Answer, Report, before, double_pattern};
 use crate::case::{Call, Case};
+use oracle::kept::{COUNTS, INTEGERS, NAMES, REALS};
 
 // Each takes its slices as a pointer and a length, and reports through its last three arguments.
 #[rustfmt::skip]
@@ -31,12 +32,20 @@ unsafe extern "C" {
     fn snowgimmer_distance(weights: *const f64, weights_len: usize, mu: *const f64, mu_len: usize,
         target: *const f64, target_len: usize, point: *const i64, point_len: usize,
         first: *mut u64, second: *mut u64, real: *mut f64) -> u32;
+    fn snowgimmer_nearest_named(reals: *mut f64, reals_len: usize, integers: *mut i64, integers_len: usize,
+        counts: *mut u64, counts_len: usize, name: u64, weights: *const f64, weights_len: usize, mu: *const f64,
+        mu_len: usize, target: *const f64, target_len: usize, out: *mut i64, out_len: usize, radius: f64, budget: u64,
+        first: *mut u64, second: *mut u64, real: *mut f64) -> u32;
+    fn snowgimmer_pick_up(reals: *mut f64, reals_len: usize, integers: *mut i64, integers_len: usize,
+        counts: *mut u64, counts_len: usize, name: u64, out: *mut i64, out_len: usize, budget: u64,
+        first: *mut u64, second: *mut u64, real: *mut f64) -> u32;
 }
 
 /// Cells on each side of a slice that nobody may write.
 const GUARD: usize = 3;
 
 /// A slice between guards, as bits, so that no NaN passes through a double on the way.
+#[derive(Clone)]
 struct Lent {
     cells: Vec<u64>,
     before: Vec<u64>,
@@ -226,4 +235,73 @@ pub fn list(case: &Case, distances: &mut [f64], points: &mut [i64]) -> Report {
             &raw mut first, &raw mut second, &raw mut real)
     };
     Report { number, first, second, real: real.to_bits() }
+}
+
+// ---- kept searches
+
+/// A block of names between guards: the bits of its doubles, its integers and its counts.
+#[derive(Clone)]
+pub struct Block {
+    slices: [Lent; 3],
+}
+
+impl Block {
+    #[must_use]
+    pub fn new(reals: &[u64], integers: &[i64], counts: &[u64]) -> Self {
+        let [reals, counts] = [reals, counts].map(|list| Lent::new(list.iter().copied()));
+        Self { slices: [reals, Lent::of_integers(integers), counts] }
+    }
+
+    /// Eight empty names.
+    #[must_use]
+    pub fn empty() -> Self {
+        let [r, i, c] = [REALS, INTEGERS, COUNTS].map(|size| NAMES * size);
+        Self::new(&vec![0; r], &vec![0; i], &vec![0; c])
+    }
+
+    #[must_use]
+    pub fn guarded(&self) -> bool {
+        self.slices.iter().all(Lent::guarded)
+    }
+
+    /// The bits of the doubles, the integers and the counts.
+    #[must_use]
+    pub fn bits(&self) -> [&[u64]; 3] {
+        self.slices.each_ref().map(Lent::middle)
+    }
+
+    pub fn bits_mut(&mut self) -> [&mut [u64]; 3] {
+        self.slices.each_mut().map(Lent::middle_mut)
+    }
+
+    fn lent(&mut self) -> [(*mut u64, usize); 3] {
+        self.bits_mut().map(|slice| (slice.as_mut_ptr(), slice.len()))
+    }
+}
+
+/// `nearest_named` with the arguments of a case.
+pub fn nearest_named(block: &mut Block, name: u64, case: &Case, out: &mut [i64]) -> Report {
+    let Case { weights: w, mu: m, target: t, radius, budget, .. } = case;
+    let [(x, xn), (z, zn), (c, cn)] = block.lent();
+    let (mut first, mut second, mut real) = (double_pattern(1), double_pattern(2), double_pattern(3));
+    // SAFETY: each pointer is to as many cells as its length says, and no two overlap.
+    #[rustfmt::skip]
+    let number = unsafe {
+        snowgimmer_nearest_named(x.cast(), xn, z.cast(), zn, c, cn, name, w.as_ptr(), w.len(), m.as_ptr(), m.len(),
+            t.as_ptr(), t.len(), out.as_mut_ptr(), out.len(), *radius, *budget,
+            &raw mut first, &raw mut second, (&raw mut real).cast())
+    };
+    Report { number, first, second, real }
+}
+
+pub fn pick_up(block: &mut Block, name: u64, out: &mut [i64], budget: u64) -> Report {
+    let [(x, xn), (z, zn), (c, cn)] = block.lent();
+    let (mut first, mut second, mut real) = (double_pattern(1), double_pattern(2), double_pattern(3));
+    // SAFETY: as above.
+    #[rustfmt::skip]
+    let number = unsafe {
+        snowgimmer_pick_up(x.cast(), xn, z.cast(), zn, c, cn, name, out.as_mut_ptr(), out.len(), budget,
+            &raw mut first, &raw mut second, (&raw mut real).cast())
+    };
+    Report { number, first, second, real }
 }

@@ -10,6 +10,7 @@ pub use standin::{basis, error, gso, int, reduce};
 include!(concat!(env!("OUT_DIR"), "/root.rs"));
 
 mod job;
+pub mod kept;
 mod lines;
 pub use job::{Job, job, job_text};
 pub use lines::answer;

@@ -2,7 +2,7 @@
 //!
 //! `speed SIDE N PASSES` calls one side alone, `rust` or `port`, so often on the first input of `nearest_ml` at n = N, from
 //! n = 24 on of `nearest`, and prints the nodes: for a program that counts instructions, by the difference of two runs.
-//! `speed running` prints the rows from n = 24 on alone.
+//! `speed running` prints the rows from n = 24 on alone, `speed kept` those of a search that is put down.
 
 use compare::case::{Call, Case};
 use compare::matrices::Pair;
@@ -289,6 +289,69 @@ fn time_lists(mut inputs: Vec<Input>, places: usize) {
     print(&format!("list, n = {n}, µs a call"), inputs.len(), &size, calls as f64 * 1e3, times);
 }
 
+// ---- nearest_named and pick_up
+
+/// The budget of a slice.
+const SLICE: u64 = 100_000;
+
+/// A search of about ten million nodes: the radius is the first of rising ones whose walk has so many.
+fn long_search(n: usize) -> Input {
+    let mut input = input(Call::Nearest, n, 0);
+    let scratch = &mut EnumerationScratch::new();
+    let mut out = vec![0; n];
+    input.case.target = vec![0.5; n];
+    input.case.radius = input.case.weights.iter().sum::<f64>() / 16.0;
+    while input.table.nearest(&input.case.target, &mut out, input.case.radius, AMPLE, scratch).unwrap_or(0) < 10_000_000
+    {
+        input.case.radius *= 1.05;
+    }
+    input
+}
+
+/// The whole search under a name, in slices of a budget; its nodes.
+fn in_slices(case: &Case, block: &mut port::Block, out: &mut [i64], slice: u64) -> u64 {
+    let mut report = port::nearest_named(block, 1, &Case { budget: slice, ..case.clone() }, out);
+    while report.number == 15 {
+        report = port::pick_up(block, 1, out, slice);
+    }
+    assert_eq!(report.number, 0, "the search ends with its point");
+    report.first
+}
+
+/// One search by `nearest`, by one named call, and by a named call and pickups.
+fn time_kept(n: usize) {
+    let Input { case, .. } = long_search(n);
+    let mut out = [vec![0; n], vec![0; n], vec![0; n]];
+    let [a, b, c] = &mut out;
+    let (mut block, mut other) = (port::Block::empty(), port::Block::empty());
+    let nodes = port::nearest(&case, a).first;
+    let mut plain = || port::nearest(&case, a).first;
+    let mut named = || in_slices(&case, &mut block, b, AMPLE);
+    let [whole, once] = in_turns(nodes, [&mut plain, &mut named]);
+    let mut sliced = || in_slices(&case, &mut other, c, SLICE);
+    let [again, slices] = in_turns(nodes, [&mut plain, &mut sliced]);
+    assert!(out[0] == out[1] && out[0] == out[2], "the points differ");
+    let per = nodes as f64;
+    let row = |name: &str, side: &Times, beside: &Times| {
+        let (best, median) = (side.best / beside.best, side.median / beside.median);
+        println!(
+            "| {name} | {nodes} nodes | {:.2} | {:.2} | {best:.2} | {:.2} | {:.2} | {median:.2} |",
+            beside.best / per,
+            side.best / per,
+            beside.median / per,
+            side.median / per
+        );
+    };
+    row(&format!("nearest_named, n = {n}, ns a node"), &once, &whole);
+    row(&format!("the same in slices of {SLICE}"), &slices, &again);
+}
+
+fn kept_rows() {
+    println!("| call | size | nearest, best | this, best | ratio | nearest, median | this, median | ratio |");
+    println!("|---|---|---:|---:|---:|---:|---:|---:|");
+    time_kept(16);
+}
+
 // ---- one side alone
 
 fn passes(side: &str, n: usize, passes: u64) -> u64 {
@@ -325,13 +388,16 @@ fn main() {
             head();
             small_rows();
             running_rows();
+            println!();
+            kept_rows();
         }
+        ("kept", ..) if words.len() == 1 => kept_rows(),
         ("running", ..) if words.len() == 1 => {
             head();
             running_rows();
         }
         _ => {
-            eprintln!("speed, or speed running, or speed rust|port N PASSES with N from 2 to 64");
+            eprintln!("speed, or speed running, or speed kept, or speed rust|port N PASSES with N from 2 to 64");
             std::process::exit(2);
         }
     }

@@ -9,7 +9,8 @@ use lib.Ieee.{Float, nan}
 use borrow.Author.Needs.{needs, scaled-fits}
 use Rattle.definitions.specs.Calls.{written}
 use Rattle.lists.proofs.Each.{at-place}
-use Rattle.listing.proofs.Writing.{written-more, mapped-more, mapped-length}
+use Rattle.lists.proofs.Segments.{mapped-more, mapped-length}
+use Rattle.listing.proofs.Writing.{written-more}
 use Rattle.listing.proofs.output.write_distances.Statement.{statement}
 use Rattle.listing.proofs.output.write_distances.Tie as tie
 

@@ -15,7 +15,8 @@ use Rattle.lists.specs.Over.{over}
 use Rattle.lists.proofs.Each.{at-place, all-take}
 use Rattle.sorting.proofs.Comparison.{row-within}
 use Rattle.sorting.proofs.Rows.{coordinates-more}
-use Rattle.listing.proofs.Writing.{written-run, row-copied, mapped-more}
+use Rattle.lists.proofs.Segments.{mapped-more}
+use Rattle.listing.proofs.Writing.{written-run, row-copied}
 use Rattle.listing.proofs.Coordinates.{coordinates-alone, coordinates-count}
 use Rattle.listing.proofs.output.write_points.Statement.{statement}
 use Rattle.listing.proofs.output.write_points.Tie as tie

@@ -1,0 +1,4 @@
+-- What the contracts cite.
+pub mod Parts
+pub mod Levels
+pub mod Walks
