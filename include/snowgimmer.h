@@ -54,8 +54,9 @@
  *    3 MuNonFinite          its index                             an entry that is read is not finite
  *    4 MuRange              its index                             an entry that is read is above 2^52 in magnitude
  *    5 WeightRange          its index                             a weight is not finite or not above 0
- *    6 LengthMismatch       expected           found              target, then output, is not n long; before them,
- *                                                                 a slice of a block of names has another length
+ *    6 LengthMismatch       expected           found              target, then output, is not n long, in a turn the
+ *                                                                 output not 23; before them, a slice of a block of
+ *                                                                 names has another length
  *    7 NonFinite            its index                             a target is not finite, or above 2^52 in magnitude
  *    8 InvalidRadius                                    radius    negative or not finite; minus zero counts as 0
  *    9 BudgetRange          budget                                it is above 2^60; in a pickup 27 is in its place
@@ -79,25 +80,28 @@
  *   26 NameEmpty                                                  the name holds no search
  *   27 SumRange             the sum                               of a kept search's budgets, this one too, is above
  *                                                                 2^60; 2^64-1 stands for every larger sum
+ *   28 SliceRange                                                 the slice of a turn is not from 1 to 2^20
+ *   29 NoneHeld                                                   no name holds a search that a turn could serve
  *
- * The first number that fits is the answer; snowgimmer_prepared_nearest_ml, snowgimmer_nearest_named and
- * snowgimmer_pick_up alone have other orders, which they say. A refusal leaves every slice that it is lent as it was.
- * THE EXCEPTION is a block of names, which is lent too: refusal 15 of snowgimmer_nearest_named and snowgimmer_pick_up
- * changes it, since the search is kept there, and so does 16 of snowgimmer_pick_up, which empties the name. The output
- * is never changed by a refusal.
+ * The first number that fits is the answer; snowgimmer_prepared_nearest_ml, snowgimmer_nearest_named,
+ * snowgimmer_pick_up and snowgimmer_turn alone have other orders, which they say. A refusal leaves every slice that it
+ * is lent as it was. THE EXCEPTION is a block of names, which is lent too: refusal 15 of snowgimmer_nearest_named,
+ * snowgimmer_pick_up and snowgimmer_turn changes it, since the search is kept there, and so does 16 of the latter two,
+ * which empties the name. 15 of a turn may empty it too, as snowgimmer_turn says, and 15 and 16 of a turn change its
+ * last. The output is never changed by a refusal.
  *
  * A RADIUS of minus zero, as a computed one may be, counts as 0: the answer is that at 0, and after a refusal real is
- * never minus zero, but for a pickup from a block that these functions have not written. Before 0.5.0 it came back in
- * 12, 15 and 16.
+ * never minus zero, but for a pickup or a turn from a block that these functions have not written. Before 0.5.0 it came
+ * back in 12, 15 and 16.
  *
  * A BUDGET is the number of nodes that a search may try, up to 2^60. A search with more to try ends with 15. Under a
  * name it is kept then, and can be picked up with a further budget: struct snowgimmer_names.
  *
  * POINTERS. Each is aligned and not null, also where its length is 0, and there are as many elements as its length
  * says, also where the call refuses that length. What a function writes overlaps nothing else that it is passed. Nothing
- * is allocated, and nothing is kept between calls but in a block of names that the caller lends. So calls may run side
- * by side, unless they are lent the same block. The floating-point unit rounds to nearest and keeps subnormal numbers,
- * as a C program starts.
+ * is allocated, and nothing is kept between calls but in a block of names and the last of its turns, which the caller
+ * lends. So calls may run side by side, unless they are lent the same block. The floating-point unit rounds to nearest
+ * and keeps subnormal numbers, as a C program starts.
  */
 #ifndef SNOWGIMMER_H
 #define SNOWGIMMER_H
@@ -106,11 +110,12 @@
 #include <stdint.h>
 
 #define SNOWGIMMER_VERSION_MAJOR 0
-#define SNOWGIMMER_VERSION_MINOR 11
+#define SNOWGIMMER_VERSION_MINOR 12
 #define SNOWGIMMER_VERSION_PATCH 0
-#define SNOWGIMMER_VERSION "0.11.0"
+#define SNOWGIMMER_VERSION "0.12.0"
 
-/* The largest n of every function with a table but the two below. */
+/* The largest n of every function with a table but the two below, and of a kept search: a turn's output has so many
+ * places. */
 #define SNOWGIMMER_LARGEST_DIMENSION 23
 /* The largest n of snowgimmer_nearest and snowgimmer_list. Since 0.10.0; before it was 23. */
 #define SNOWGIMMER_LARGEST_SEARCHED 64
@@ -124,11 +129,14 @@
 #define SNOWGIMMER_COORD_LIMIT 4503599627370496.0
 /* The largest name under which a search is kept; the smallest is 1. */
 #define SNOWGIMMER_NAMES 8
-/* How many elements the slices of a block of names have, and how many bytes all three together. */
+/* The largest slice of a turn, 2^20; the smallest is 1. Since 0.12.0. */
+#define SNOWGIMMER_LARGEST_SLICE 1048576
+/* How many elements the slices of a block of names have, and how many bytes a struct snowgimmer_names. Before 0.12.0 it
+ * had 8 bytes less, since it was without its last. */
 #define SNOWGIMMER_NAMES_REALS 5168
 #define SNOWGIMMER_NAMES_INTEGERS 736
 #define SNOWGIMMER_NAMES_COUNTS 768
-#define SNOWGIMMER_NAMES_SIZE 53376
+#define SNOWGIMMER_NAMES_SIZE 53384
 
 #ifdef __cplusplus
 extern "C" {
@@ -161,7 +169,9 @@ enum snowgimmer_refusal {
     SNOWGIMMER_MAPPED_RANGE = 24,
     SNOWGIMMER_NAME_RANGE = 25,
     SNOWGIMMER_NAME_EMPTY = 26,
-    SNOWGIMMER_SUM_RANGE = 27
+    SNOWGIMMER_SUM_RANGE = 27,
+    SNOWGIMMER_SLICE_RANGE = 28,
+    SNOWGIMMER_NONE_HELD = 29
 };
 
 /* The name of an answer as in the table above, "Success" of 0, and "Unknown" of a number that is not there. */
@@ -193,6 +203,8 @@ static inline const char *snowgimmer_refusal_name(uint32_t number) {
     case SNOWGIMMER_NAME_RANGE: return "NameRange";
     case SNOWGIMMER_NAME_EMPTY: return "NameEmpty";
     case SNOWGIMMER_SUM_RANGE: return "SumRange";
+    case SNOWGIMMER_SLICE_RANGE: return "SliceRange";
+    case SNOWGIMMER_NONE_HELD: return "NoneHeld";
     default: return "Unknown";
     }
 }
@@ -288,14 +300,16 @@ uint32_t snowgimmer_prepared_nearest_ml(const double *weights, size_t weights_le
  *         number = snowgimmer_pick_up_kept(&names, 3, out, n, 100000, &first, &second, &real);
  *     }
  *
- * as examples/put_down.c shows. It takes 53 kB, which a small stack may not have.
+ * as examples/put_down.c shows. Where several searches share one computer, snowgimmer_turn_kept serves one after the
+ * other; last is the name that it served last, and 0 before the first turn. The block takes 53 kB, which a small stack
+ * may not have.
  *
  * WHAT IS IN IT is for the library to read and write. It may be copied, stored and moved as bytes, also to another
- * machine of the same byte order. A name is empty if its numbers fail a test: n is at most 23, the nodes are at most
- * 2^60, at least one level is open, the open levels rise and are below n, and none has made more steps than the nodes
- * allow. Any other contents, whoever wrote them, are run safely as the search that they say: no index is out of range,
- * no integer overflows, no loop is endless, and a call tries at most as many nodes as its budget says. But what is
- * found then is only what these numbers say.
+ * machine of the same byte order. One of 0.11.0 is without last: put 8 bytes of zeros behind it. A name is empty if its
+ * numbers fail a test: n is at most 23, the nodes are at most 2^60, at least one level is open, the open levels rise
+ * and are below n, and none has made more steps than the nodes allow. Any other contents, whoever wrote them, are run
+ * safely as the search that they say: no index is out of range, no integer overflows, no loop is endless, and a call
+ * tries at most as many nodes as its budget says. But what is found then is only what these numbers say.
  *
  * THE BLOCK HOLDS THE TABLES AND TARGETS of the searches that are kept. If they are confidential, clear it after use.
  * One block must not be used by two threads at once; different blocks may. Since 0.11.0. */
@@ -303,6 +317,7 @@ struct snowgimmer_names {
     double reals[SNOWGIMMER_NAMES_REALS];
     int64_t integers[SNOWGIMMER_NAMES_INTEGERS];
     uint64_t counts[SNOWGIMMER_NAMES_COUNTS];
+    uint64_t last; /* since 0.12.0 */
 };
 
 #if defined(__cplusplus) && __cplusplus >= 201103L
@@ -337,19 +352,55 @@ uint32_t snowgimmer_nearest_named(double *reals, size_t reals_len, int64_t *inte
  * Refused, in this order: 25; 6, if reals, integers or counts does not have its 5168, 736 or 768 elements; 26; 6, if
  * out does not have the n elements of the search that is kept; 27, in the place of 9, if the sum of its budgets, this
  * one too, is above 2^60; 15; 16. 25, 6, 26 and 27 leave the block as it was. Where n is not known, out_len 0 asks for
- * it: the answer is then 26, or 6 with n in first. Stack: 13 kB. Since 0.11.0. */
+ * it: the answer is then 26, or 6 with n in first. Stack: 16 kB. Since 0.11.0. */
 uint32_t snowgimmer_pick_up(double *reals, size_t reals_len, int64_t *integers, size_t integers_len, uint64_t *counts,
     size_t counts_len, uint64_t name, int64_t *out, size_t out_len, uint64_t budget, uint64_t *first,
     uint64_t *second, double *real);
 
-/* Empties every name of a block, by zeros that no compiler leaves out. */
+/* A turn of kept searches that share one computer: picks up the next held name after last with a slice of nodes, and
+ * makes it the last. After 8 comes 1, and empty names are passed over. Before the first turn last is 0, which stands
+ * for 8, as does every number that is no name; so the first turn looks from 1 on.
+ *
+ * name is the name served, and n the n of its search. The answer, first and real are those of snowgimmer_pick_up with
+ * the slice for its budget. A point goes to the first n places of out, and the others stay as they were. out has 23
+ * places, whatever n is, since it is not known before which search comes next:
+ *
+ *     for (;;) {
+ *         number = snowgimmer_turn_kept(&names, out, 23, 100000, &name, &n, &first, &second, &real);
+ *         if (name == 0) break;
+ *         if (number == SNOWGIMMER_SUCCESS) .. this name's search has ended with out[0] to out[n-1] ..
+ *         .. what can't wait ..
+ *     }
+ *
+ * as examples/turns.c shows. After it number is 29, or 28 or 6 if the slice or a length is wrong.
+ *
+ * NO SEARCH WAITS FOR EVER. One for which k more slices are enough has ended with the 8*k-th accepted turn, if all turns
+ * have that slice, whatever is kept, picked up or emptied under other names meanwhile; it may be picked up itself. It
+ * takes that no other search is kept in its place, and that no slice is due that would take it past 2^60 nodes. Only an
+ * accepted turn, which answers 0, 15 or 16, changes last: the name stays the last one where it is emptied, filled again
+ * or picked up otherwise. If it alone is held, it is served again.
+ *
+ * THE LIMIT. If the nodes of a search and the slice are above 2^60 together, its turn answers 15 as the search stands,
+ * with its nodes and its standing radius, and empties the name. This 15 looks like one that keeps the search: a pickup
+ * of the name with a budget of 0 answers 26 if it was emptied, and else 15 again.
+ *
+ * Refused, in this order: 28, if the slice is not from 1 to 2^20; 6, if reals, integers or counts does not have its
+ * 5168, 736 or 768 elements; 29, if no name is held; 6, with 23 in first, if out does not have 23 places; 15; 16. 28, 6
+ * and 29 leave the block and last as they were, and name and n are 0 then. An accepted turn changes nothing of another
+ * name. Stack: 16 kB. Since 0.12.0. */
+uint32_t snowgimmer_turn(double *reals, size_t reals_len, int64_t *integers, size_t integers_len, uint64_t *counts,
+    size_t counts_len, uint64_t *last, int64_t *out, size_t out_len, uint64_t slice, uint64_t *name, uint64_t *n,
+    uint64_t *first, uint64_t *second, double *real);
+
+/* Empties every name of a block, by zeros that no compiler leaves out, and makes its next turn the first. */
 static inline void snowgimmer_names_clear(struct snowgimmer_names *names) {
     volatile double *reals = names->reals;
     volatile int64_t *integers = names->integers;
-    volatile uint64_t *counts = names->counts;
+    volatile uint64_t *counts = names->counts, *last = &names->last;
     for (size_t k = 0; k < SNOWGIMMER_NAMES_REALS; k++) reals[k] = 0.0;
     for (size_t k = 0; k < SNOWGIMMER_NAMES_INTEGERS; k++) integers[k] = 0;
     for (size_t k = 0; k < SNOWGIMMER_NAMES_COUNTS; k++) counts[k] = 0;
+    *last = 0;
 }
 
 /* snowgimmer_nearest_named with a whole block, whose lengths can't be wrong. */
@@ -366,6 +417,13 @@ static inline uint32_t snowgimmer_pick_up_kept(struct snowgimmer_names *names, u
     size_t out_len, uint64_t budget, uint64_t *first, uint64_t *second, double *real) {
     return snowgimmer_pick_up(names->reals, SNOWGIMMER_NAMES_REALS, names->integers, SNOWGIMMER_NAMES_INTEGERS,
         names->counts, SNOWGIMMER_NAMES_COUNTS, name, out, out_len, budget, first, second, real);
+}
+
+/* snowgimmer_turn with a whole block, whose lengths can't be wrong, and its last. */
+static inline uint32_t snowgimmer_turn_kept(struct snowgimmer_names *names, int64_t *out, size_t out_len,
+    uint64_t slice, uint64_t *name, uint64_t *n, uint64_t *first, uint64_t *second, double *real) {
+    return snowgimmer_turn(names->reals, SNOWGIMMER_NAMES_REALS, names->integers, SNOWGIMMER_NAMES_INTEGERS,
+        names->counts, SNOWGIMMER_NAMES_COUNTS, &names->last, out, out_len, slice, name, n, first, second, real);
 }
 
 /* Lists every integer vector admitted at the radius, by distance and then coordinates: the distances go to distances,

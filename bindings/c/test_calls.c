@@ -15,6 +15,11 @@
 #define LONG 65
 #define LARGE (SNOWGIMMER_LARGEST_DIMENSION + 1)
 #define DRAWN 12
+#define TURN SNOWGIMMER_LARGEST_DIMENSION
+/* how many elements of each slice of a block are a name's */
+#define PART_REALS 646
+#define PART_INTEGERS 92
+#define PART_COUNTS 96
 
 static const double weights[N] = {1.0, 1.0};
 static const double mu[N * N] = {0.0, 0.0, 0.5, 0.0};
@@ -910,6 +915,335 @@ static void other_contents(void) {
     expect_empty("cleared");
 }
 
+/* What the last turn told beside its report, and the places that it was lent, with one more behind them. */
+static uint64_t served, dimension;
+static int64_t lent[TURN + 2];
+
+/* a turn into so many places, of which only those of a point may change */
+static uint32_t turn_into(size_t places, uint64_t slice) {
+    for (int i = 0; i < TURN + 2; i++) lent[i] = -7 - i;
+    first = second = served = dimension = 77;
+    real = 77.0;
+    uint32_t number = snowgimmer_turn_kept(&block, lent, places, slice, &served, &dimension, &first, &second, &real);
+    for (int i = number == SNOWGIMMER_SUCCESS ? (int)dimension : 0; i < TURN + 2; i++)
+        expect_true("places of a turn", lent[i] == -7 - i);
+    return number;
+}
+
+/* The turn is refused by a check: it serves no name, and changes nothing. */
+static void refuse_turn(const char *what, size_t places, uint64_t slice, uint32_t expected, uint64_t one,
+    uint64_t two) {
+    remember();
+    expect(what, turn_into(places, slice), expected, one, two, 0.0);
+    expect_true(what, served == 0 && dimension == 0);
+    expect_unchanged(what);
+}
+
+/* What the block holds is what it held when it was remembered, but for one name. */
+static void expect_others(const char *what, uint64_t name) {
+    for (size_t k = 0; k < SNOWGIMMER_NAMES; k++) {
+        if (k + 1 == name) continue;
+        const size_t r = k * PART_REALS, i = k * PART_INTEGERS, c = k * PART_COUNTS;
+        expect_true(what, memcmp(block.reals + r, remembered.reals + r, PART_REALS * sizeof *block.reals) == 0);
+        expect_true(what,
+            memcmp(block.integers + i, remembered.integers + i, PART_INTEGERS * sizeof *block.integers) == 0);
+        expect_true(what, memcmp(block.counts + c, remembered.counts + c, PART_COUNTS * sizeof *block.counts) == 0);
+    }
+}
+
+/* The turn serves this name with n = 2, and changes nothing of another; a point is 0, 1. */
+static void serve(const char *what, uint64_t slice, uint64_t name, uint32_t expected, uint64_t nodes, double three) {
+    remember();
+    expect(what, turn_into(TURN, slice), expected, nodes, 0, three);
+    expect_true(what, served == name && dimension == N && block.last == name);
+    if (expected == SNOWGIMMER_SUCCESS) expect_point(what, lent, 0, 1);
+    expect_others(what, name);
+}
+
+/* Case G under the names from one to another, each with this budget: 2 nodes have found its point, and 5 end it. */
+static void hold(uint64_t from, uint64_t to, uint64_t budget) {
+    for (uint64_t name = from; name <= to; name++)
+        expect("held", named_g(name, budget), SNOWGIMMER_BUDGET_EXHAUSTED, budget, 0, budget < 2 ? 2.0 : 0.25);
+}
+
+/* 28, 29, 6 of the output, and their order. */
+static void refused_turns(void) {
+    const uint64_t most = SNOWGIMMER_LARGEST_SLICE, wrong[] = {0, most + 1, (uint64_t)1 << 32, UINT64_MAX};
+    const size_t places[] = {0, TURN - 1, TURN + 1};
+    snowgimmer_names_clear(&block);
+    block.last = 5;
+    for (int held = 0; held < 2; held++) {
+        for (int i = 0; i < 4; i++) {
+            refuse_turn("slice", TURN, wrong[i], SNOWGIMMER_SLICE_RANGE, 0, 0);
+            refuse_turn("slice, before the rest", 0, wrong[i], SNOWGIMMER_SLICE_RANGE, 0, 0);
+        }
+        for (int i = 0; i < 3; i++) {
+            if (held) refuse_turn("places", places[i], 1, SNOWGIMMER_LENGTH_MISMATCH, TURN, places[i]);
+            else refuse_turn("none held, before places", places[i], 1, SNOWGIMMER_NONE_HELD, 0, 0);
+        }
+        if (held) continue;
+        refuse_turn("none held", TURN, 1, SNOWGIMMER_NONE_HELD, 0, 0);
+        refuse_turn("none held", TURN, most, SNOWGIMMER_NONE_HELD, 0, 0);
+        hold(3, 3, 2);
+    }
+    /* the ends of the slices that are taken */
+    serve("least slice", 1, 3, SNOWGIMMER_BUDGET_EXHAUSTED, 3, 0.25);
+    serve("largest slice", most, 3, SNOWGIMMER_SUCCESS, 5, 0.25);
+    refuse_turn("none held any more", TURN, 1, SNOWGIMMER_NONE_HELD, 0, 0);
+    expect_true("the last stays", block.last == 3);
+}
+
+/* The function by slices, over a block that holds a search: wrong lengths of these come after 28 and before out's. */
+static void turn_lengths(void) {
+    static double reals[SNOWGIMMER_NAMES_REALS + 1];
+    static int64_t integers[SNOWGIMMER_NAMES_INTEGERS + 1];
+    static uint64_t counts[SNOWGIMMER_NAMES_COUNTS + 1];
+    const size_t right[3] = {SNOWGIMMER_NAMES_REALS, SNOWGIMMER_NAMES_INTEGERS, SNOWGIMMER_NAMES_COUNTS};
+    uint64_t last = 5, name, n;
+    int64_t out[TURN] = {7, 8, 9};
+    snowgimmer_names_clear(&block);
+    hold(3, 3, 2);
+    memcpy(reals, block.reals, sizeof block.reals);
+    memcpy(integers, block.integers, sizeof block.integers);
+    memcpy(counts, block.counts, sizeof block.counts);
+    for (int wrong = 0; wrong < 3; wrong++) {
+        const size_t found[3] = {0, right[wrong] - 1, right[wrong] + 1};
+        for (int k = 0; k < 3; k++) {
+            /* those behind the wrong one are wrong too */
+            size_t len[3] = {right[0], wrong < 1 ? 0 : right[1], 0};
+            len[wrong] = found[k];
+            for (uint64_t slice = 0; slice < 2; slice++) {
+                name = n = 77;
+                uint32_t number = snowgimmer_turn(reals, len[0], integers, len[1], counts, len[2], &last, out, 0, slice,
+                    &name, &n, &first, &second, &real);
+                if (slice == 0) expect("28 before lengths", number, SNOWGIMMER_SLICE_RANGE, 0, 0, 0.0);
+                else expect("length, turn", number, SNOWGIMMER_LENGTH_MISMATCH, right[wrong], found[k], 0.0);
+                expect_true("length, turn", name == 0 && n == 0 && last == 5);
+            }
+        }
+    }
+    expect_true("lengths leave the slices", memcmp(reals, block.reals, sizeof block.reals) == 0
+        && memcmp(integers, block.integers, sizeof block.integers) == 0
+        && memcmp(counts, block.counts, sizeof block.counts) == 0);
+    uint32_t number = snowgimmer_turn(reals, right[0], integers, right[1], counts, right[2], &last, out, TURN, 3, &name,
+        &n, &first, &second, &real);
+    expect("slices", number, SNOWGIMMER_SUCCESS, 5, 0, 0.25);
+    expect_point("slices", out, 0, 1);
+    expect_true("slices", name == 3 && n == N && last == 3 && out[2] == 9);
+}
+
+/* Which name comes next. */
+static void next_names(void) {
+    const uint64_t before_the_first[] = {0, 8, 9, UINT64_MAX};
+    snowgimmer_names_clear(&block);
+    hold(1, 2, 0);
+    for (uint64_t nodes = 1; nodes < 3; nodes++)
+        for (uint64_t name = 1; name < 3; name++)
+            serve("1, 2, 1, 2", 1, name, SNOWGIMMER_BUDGET_EXHAUSTED, nodes, nodes < 2 ? 2.0 : 0.25);
+    snowgimmer_names_clear(&block);
+    hold(1, 8, 2);
+    const struct snowgimmer_names all = block;
+    for (int i = 0; i < 4; i++) {
+        block = all;
+        block.last = before_the_first[i];
+        serve("from 1 on", 1, 1, SNOWGIMMER_BUDGET_EXHAUSTED, 3, 0.25);
+    }
+    for (uint64_t last = 1; last < 8; last++) {
+        block = all;
+        block.last = last;
+        serve("the next", 1, last + 1, SNOWGIMMER_BUDGET_EXHAUSTED, 3, 0.25);
+    }
+    /* empty names are passed over, and 1 follows 8 */
+    const uint64_t held[] = {2, 5, 8};
+    snowgimmer_names_clear(&block);
+    for (int i = 0; i < 3; i++) hold(held[i], held[i], 0);
+    for (int i = 0; i < 6; i++)
+        serve("2, 5, 8, 2", 1, held[i % 3], SNOWGIMMER_BUDGET_EXHAUSTED, i < 3 ? 1 : 2, i < 3 ? 2.0 : 0.25);
+    /* the last alone */
+    snowgimmer_names_clear(&block);
+    hold(5, 5, 2);
+    serve("alone", 1, 5, SNOWGIMMER_BUDGET_EXHAUSTED, 3, 0.25);
+    serve("alone, again", 1, 5, SNOWGIMMER_BUDGET_EXHAUSTED, 4, 0.25);
+    serve("alone, its end", 1, 5, SNOWGIMMER_SUCCESS, 5, 0.25);
+    refuse_turn("nobody", TURN, 1, SNOWGIMMER_NONE_HELD, 0, 0);
+    snowgimmer_names_clear(&block);
+    expect_empty("cleared, with its last");
+}
+
+/* The name last served stays the last, whatever becomes of it otherwise: a program that looks from 1 on again would
+ * serve name 1. */
+static void last_served(void) {
+    snowgimmer_names_clear(&block);
+    hold(1, 4, 2);
+    serve("the first", 1, 1, SNOWGIMMER_BUDGET_EXHAUSTED, 3, 0.25);
+    serve("its end", 3, 2, SNOWGIMMER_SUCCESS, 5, 0.25);
+    serve("emptied by its turn", 1, 3, SNOWGIMMER_BUDGET_EXHAUSTED, 3, 0.25);
+    expect("picked up", pick_up(3, 2), SNOWGIMMER_SUCCESS, 5, 0, 0.25);
+    expect_true("a pickup leaves the last", block.last == 3);
+    serve("emptied by a pickup", 1, 4, SNOWGIMMER_BUDGET_EXHAUSTED, 3, 0.25);
+    snowgimmer_names_clear(&block);
+    hold(1, 3, 2);
+    serve("its end", 3, 1, SNOWGIMMER_SUCCESS, 5, 0.25);
+    hold(1, 1, 2);
+    serve("emptied and filled again", 1, 2, SNOWGIMMER_BUDGET_EXHAUSTED, 3, 0.25);
+    hold(2, 2, 0);
+    serve("replaced", 1, 3, SNOWGIMMER_BUDGET_EXHAUSTED, 3, 0.25);
+    expect("picked up", pick_up(1, 2), SNOWGIMMER_BUDGET_EXHAUSTED, 4, 0, 0.25);
+    serve("a pickup is no turn", 1, 1, SNOWGIMMER_SUCCESS, 5, 0.25);
+    refuse_turn("refused", 0, 1, SNOWGIMMER_LENGTH_MISMATCH, TURN, 0);
+    serve("a refused turn is none", 1, 2, SNOWGIMMER_BUDGET_EXHAUSTED, 1, 2.0);
+}
+
+/* Eight searches that need 3 nodes more: the eighth ends by turn 8*k, where k slices are 3 nodes or more, also if the
+ * other names are filled again at once. */
+static void eight_searches(void) {
+    snowgimmer_names_clear(&block);
+    hold(1, 8, 2);
+    for (uint64_t name = 1; name < 9; name++) serve("k = 1", 3, name, SNOWGIMMER_SUCCESS, 5, 0.25);
+    refuse_turn("k = 1", TURN, 3, SNOWGIMMER_NONE_HELD, 0, 0);
+    hold(1, 8, 2);
+    for (uint64_t name = 1; name < 9; name++) serve("k = 2", 2, name, SNOWGIMMER_BUDGET_EXHAUSTED, 4, 0.25);
+    for (uint64_t name = 1; name < 9; name++) serve("k = 2", 2, name, SNOWGIMMER_SUCCESS, 5, 0.25);
+    refuse_turn("k = 2", TURN, 2, SNOWGIMMER_NONE_HELD, 0, 0);
+    hold(1, 7, 4);
+    hold(8, 8, 2);
+    for (uint64_t turns = 1; turns < 16; turns++) {
+        if (turns == 8) {
+            serve("k = 2, others come", 2, 8, SNOWGIMMER_BUDGET_EXHAUSTED, 4, 0.25);
+        } else {
+            serve("others come", 2, turns % 8, SNOWGIMMER_SUCCESS, 5, 0.25);
+            hold(turns % 8, turns % 8, 4);
+        }
+    }
+    serve("k = 2, others come", 2, 8, SNOWGIMMER_SUCCESS, 5, 0.25);
+}
+
+/* 16, and searches of 1, 2 and 23 levels: a point fills the first n places. */
+static void turns_of_any_n(void) {
+    const double w[N] = {2 * DBL_EPSILON, 4.0}, zero[N * N] = {0.0}, half[N] = {0.5, 0.5}, quarter = 0.25;
+    snowgimmer_names_clear(&block);
+    expect("case H", named(8, w, zero, half, 1.0, 1), SNOWGIMMER_BUDGET_EXHAUSTED, 1, 0, 1.0);
+    serve("case H", 1, 8, SNOWGIMMER_OUTSIDE_RADIUS, 0, 1.0);
+    block.last = 0;
+    expect_empty("16 empties the name");
+    const struct large *t = large_table(TURN, 0.0, 20.0, 21.0);
+    int64_t out[TURN];
+    uint32_t number = snowgimmer_nearest_kept(&block, 4, t->weights, TURN, t->mu, TURN * TURN, t->target, TURN, out,
+        TURN, 0.5, 9, &first, &second, &real);
+    expect("n = 23", number, SNOWGIMMER_BUDGET_EXHAUSTED, 9, 0, 0.5);
+    number = snowgimmer_nearest_kept(&block, 6, weights, 1, mu, 1, &quarter, 1, out, 1, 1.0, 1, &first, &second, &real);
+    expect("n = 1", number, SNOWGIMMER_BUDGET_EXHAUSTED, 1, 0, 0.0625);
+    hold(5, 5, 2);
+    expect("n = 23", turn_into(TURN, 100), SNOWGIMMER_SUCCESS, 23, 0, 0.0);
+    expect_true("n = 23", served == 4 && dimension == 23 && lent[0] == 20 && lent[1] == 21);
+    for (int i = 2; i < TURN; i++) expect_true("n = 23", lent[i] == 0);
+    serve("n = 2", 100, 5, SNOWGIMMER_SUCCESS, 5, 0.25);
+    expect("n = 1", turn_into(TURN, 100), SNOWGIMMER_SUCCESS, 2, 0, 0.0625);
+    expect_true("n = 1", served == 6 && dimension == 1 && lent[0] == 0);
+    block.last = 0;
+    expect_empty("each end empties its name");
+}
+
+/* A search whose sum would pass 2^60: the nodes under name 3 are set by hand. */
+static void turns_at_the_limit(void) {
+    for (uint64_t left = 0; left < 5; left++) {
+        for (uint64_t slice = 1; slice < 6; slice++) {
+            const uint64_t nodes = SNOWGIMMER_LARGEST_BUDGET - left;
+            const int passes = slice > left, ends = slice >= 3;
+            snowgimmer_names_clear(&block);
+            hold(3, 4, 2);
+            block.counts[2 * PART_COUNTS + 1] = nodes;
+            /* so that it is seen which radius is told: what is kept is 0.25 */
+            if (passes) block.reals[2 * PART_REALS + 576] = 0.1875;
+            if (passes) serve("above 2^60", slice, 3, SNOWGIMMER_BUDGET_EXHAUSTED, nodes, 0.1875);
+            else if (ends) serve("up to 2^60", slice, 3, SNOWGIMMER_SUCCESS, nodes + 3, 0.25);
+            else serve("up to 2^60", slice, 3, SNOWGIMMER_BUDGET_EXHAUSTED, nodes + slice, 0.25);
+            if (passes || ends) expect("emptied", pick_up(3, 0), SNOWGIMMER_NAME_EMPTY, 0, 0, 0.0);
+            else expect("kept", pick_up(3, 0), SNOWGIMMER_BUDGET_EXHAUSTED, nodes + slice, 0, 0.25);
+            serve("the other name", 3, 4, SNOWGIMMER_SUCCESS, 5, 0.25);
+            if (!passes && !ends) continue;
+            block.last = 0;
+            expect_empty("nothing is left");
+        }
+    }
+}
+
+/* A turn is a pickup of the next held name, whatever the block holds: it tells and leaves what the pickup does in a
+ * copy. Gives whether a name was served. */
+static int expect_as_pick_up(uint64_t slice) {
+    static struct snowgimmer_names copy;
+    int64_t out[TURN];
+    remember();
+    copy = block;
+    uint64_t name = block.last < 8 ? block.last : 0, n = 0;
+    for (int tried = 0; tried < 8 && n == 0; tried++) {
+        name = name % 8 + 1;
+        if (snowgimmer_pick_up_kept(&copy, name, out, 0, 0, &first, &second, &real) == SNOWGIMMER_LENGTH_MISMATCH)
+            n = first;
+    }
+    if (n == 0) {
+        refuse_turn("nothing held", TURN, slice, SNOWGIMMER_NONE_HELD, 0, 0);
+        return 0;
+    }
+    for (int i = 0; i < TURN; i++) out[i] = -7 - i;
+    const uint32_t expected = snowgimmer_pick_up_kept(&copy, name, out, (size_t)n, slice, &first, &second, &real);
+    const uint64_t one = first;
+    const double three = real;
+    const uint32_t number = turn_into(TURN, slice);
+    expect_others("as a pickup", name);
+    expect_true("as a pickup", served == name && dimension == n && block.last == name);
+    if (expected == SNOWGIMMER_SUM_RANGE) {
+        expect_true("above 2^60", number == SNOWGIMMER_BUDGET_EXHAUSTED && first == one - slice);
+        expect_true("above 2^60", same(real, remembered.reals[(name - 1) * PART_REALS + 576]));
+        return 1;
+    }
+    expect_true("as a pickup", number == expected && first == one && second == 0 && same(real, three));
+    expect_true("as a pickup", memcmp(lent, out, sizeof out) == 0);
+    copy.last = name;
+    expect_true("as a pickup", memcmp(&block, &copy, sizeof block) == 0);
+    return 1;
+}
+
+/* Rows of calls that fill, pick up and serve names, some of which hold what the library has not written. */
+static void drawn_turns(void) {
+    double w[DRAWN], m[DRAWN * DRAWN], t[DRAWN];
+    int64_t out[DRAWN];
+    int count = 0;
+    snowgimmer_names_clear(&block);
+    for (int k = 0; k < 3000; k++) {
+        const uint64_t name = 1 + draw(SNOWGIMMER_NAMES);
+        const uint32_t kind = draw(16);
+        if (kind == 0) {
+            drawn_search(w, m, t);
+            const size_t n = 1 + draw(DRAWN);
+            snowgimmer_nearest_kept(&block, name, w, n, m, n * n, t, n, out, n, 20.0 * (double)n, draw(20), &first,
+                &second, &real);
+        } else if (kind == 1) {
+            const size_t n = (size_t)block.counts[(name - 1) * PART_COUNTS];
+            snowgimmer_pick_up_kept(&block, name, out, n <= DRAWN ? n : 0, draw(200), &first, &second, &real);
+        } else if (kind == 2) {
+            block.counts[(name - 1) * PART_COUNTS + draw(5)] = draw(24);
+            block.counts[draw(SNOWGIMMER_NAMES_COUNTS)] = SNOWGIMMER_LARGEST_BUDGET - draw(100);
+            block.last = draw(12);
+        } else {
+            count += expect_as_pick_up(1 + draw(100));
+        }
+    }
+    expect_true("most turns serve a name", count > 1000);
+    snowgimmer_names_clear(&block);
+}
+
+static void turns(void) {
+    refused_turns();
+    turn_lengths();
+    next_names();
+    last_served();
+    eight_searches();
+    turns_of_any_n();
+    turns_at_the_limit();
+    drawn_turns();
+}
+
 static void kept_searches(void) {
     expect_true("size", sizeof(struct snowgimmer_names) == SNOWGIMMER_NAMES_SIZE);
     expect_empty("a static block");
@@ -919,6 +1253,7 @@ static void kept_searches(void) {
     block_lengths();
     slices();
     other_contents();
+    turns();
 }
 
 /* ratio, which writes its report whatever it held, by so many of these distances */
@@ -1037,8 +1372,8 @@ static void names(void) {
         "LengthMismatch", "NonFinite", "InvalidRadius", "BudgetRange", "CandidateLength", "CandidateDistance",
         "CandidateOutside", "WidenedRadius", "ListSize", "BudgetExhausted", "OutsideRadius", "Unknown", "ListFull",
         "ReferenceIndex", "ChangedRange", "SettingRange", "MatrixRange", "NotInverse", "MappedRange", "NameRange",
-        "NameEmpty", "SumRange", "Unknown"};
-    for (uint32_t number = 0; number < 29; number++) expect_name(number, all[number]);
+        "NameEmpty", "SumRange", "SliceRange", "NoneHeld", "Unknown"};
+    for (uint32_t number = 0; number < 31; number++) expect_name(number, all[number]);
     expect_name(UINT32_MAX, "Unknown");
 }
 

@@ -26,10 +26,10 @@ from fractions import Fraction
 import snowgimmer
 from snowgimmer import (
     BudgetExhausted, BudgetRange, CandidateDistance, CandidateLength, CandidateOutside, ChangedRange, InvalidRadius,
-    LengthMismatch, ListFull, MappedRange, MatrixRange, MuNonFinite, MuRange, NameEmpty, NameRange, Names, NonFinite,
-    NotInverse, OutsideRadius, Ratio, ReferenceIndex, SettingRange, SumRange, TableSize, TriangleCheck, WeightRange,
-    WidenedRadius, change_reference, list_points, nearest, nearest_ml, nearest_plane, nearest_seeded,
-    prepared_nearest_ml, ratio, round_away, round_coefficients, triangular_distance)
+    LengthMismatch, ListFull, MappedRange, MatrixRange, MuNonFinite, MuRange, NameEmpty, NameRange, Names, NoneHeld,
+    NonFinite, NotInverse, OutsideRadius, Ratio, ReferenceIndex, SettingRange, SliceRange, SumRange, TableSize,
+    TriangleCheck, WeightRange, WidenedRadius, change_reference, list_points, nearest, nearest_ml, nearest_plane,
+    nearest_seeded, prepared_nearest_ml, ratio, round_away, round_coefficients, triangular_distance)
 
 HERE = os.path.dirname(os.path.abspath(__file__))
 
@@ -355,8 +355,8 @@ class Prepared(Test):
             self.assertEqual(through(found.point, inverse), reduced.point)
 
 
-class Kept(Test):
-    """Searches under names. 2 nodes of case G at the radius 2 find its point, and 5 end the search."""
+class Named(Test):
+    """With names. 2 nodes of case G at the radius 2 find its point, and 5 end the search."""
 
     FOUND = (0, 1), 5, 0.25
 
@@ -377,6 +377,15 @@ class Kept(Test):
         before = self.names.to_bytes()
         self.refused(kind, values, call, *arguments)
         self.assertEqual(self.names.to_bytes(), before)
+
+    def drawn(self, draw, n=12):
+        """A table whose weights fall, with a target and a radius: a search of some thousand nodes."""
+        weights = [2.0**(9 - 9 * i // (n - 1)) * draw.uniform(1, 2) for i in range(n)]
+        return weights, [draw.uniform(-0.5, 0.5) for _ in range(n * n)], [draw.uniform(-10, 10) for _ in range(n)], 80
+
+
+class Kept(Named):
+    """Searches under names."""
 
     def test_picked_up(self):
         pick_up = self.names.pick_up
@@ -465,11 +474,6 @@ class Kept(Test):
         # exactly 2^60
         self.assertEqual(self.names.pick_up(3, 2**60 - 2), self.FOUND)
 
-    def drawn(self, draw, n=12):
-        """A table whose weights fall, with a target and a radius: a search of some thousand nodes."""
-        weights = [2.0**(9 - 9 * i // (n - 1)) * draw.uniform(1, 2) for i in range(n)]
-        return weights, [draw.uniform(-0.5, 0.5) for _ in range(n * n)], [draw.uniform(-10, 10) for _ in range(n)], 80
-
     def test_slices(self):
         """In slices of the budget a search gives what it gives in one, bit for bit."""
         draw = random.Random(7)
@@ -554,7 +558,7 @@ class Kept(Test):
                     self.assertEqual(snowgimmer._answer("pick_up", block, name, *lent[-2:], 2), answer)
 
     def test_side_by_side(self):
-        """Threads that share the names take turns."""
+        """Threads that share the names wait for each other."""
         whole = [(name, self.drawn(random.Random(name))) for name in range(1, 9)]
         found = {}
 
@@ -575,6 +579,257 @@ class Kept(Test):
             each.join()
         self.assertEqual(found, {name: nearest(*search, 10**5) for name, search in whole})
         self.assertEqual(self.names.held(), {})
+
+
+class Turns(Named):
+    """Turns of kept searches."""
+
+    # where the places of the counts and the name last served begin, in elements of a block
+    COUNTS, LAST = 5168 + 736, 5168 + 736 + 768
+
+    def hold(self, names, budget):
+        for name in names:
+            self.keep(name, budget)
+
+    def set(self, kind, place, value):
+        """Sets a number of the block by hand."""
+        data = bytearray(self.names.to_bytes())
+        struct.pack_into(kind, data, 8 * place, value)
+        self.names = Names.from_bytes(data)
+
+    def others(self, name):
+        """The parts of the other names."""
+        data, found = memoryview(self.names.to_bytes()), []
+        for begin, size in (0, 646), (5168, 92), (self.COUNTS, 96):
+            for each in set(range(1, 9)) - {name}:
+                found.append(bytes(data[8 * (begin + (each - 1) * size):8 * (begin + each * size)]))
+        return found
+
+    def serve(self, slice, name, outcome):
+        """The turn serves this name with n = 2, and leaves the others as they were. The outcome is what it found, or
+        the values of its refusal."""
+        before = self.others(name)
+        turn = self.names.turn(slice)
+        self.assertEqual((turn.name, turn.n, self.names.last_served), (name, 2, name))
+        self.assertEqual(turn.refusal.values if turn.found is None else turn.found, outcome)
+        self.assertTrue(turn.found is None or turn.refusal is None)
+        self.assertIs(turn.kept, name in self.names.held())
+        self.assertEqual(self.others(name), before)
+        return turn
+
+    def exhausts(self, slice, name, nodes, radius=0.25):
+        turn = self.serve(slice, name, {"nodes": nodes, "radius": radius})
+        self.assertIs(type(turn.refusal), BudgetExhausted)
+        return turn
+
+    def test_slice_range(self):
+        for held in [], [3]:
+            self.hold(held, 2)
+            for last in 0, 5, 3:
+                self.set("Q", self.LAST, last)
+                for slice in 0, 2**20 + 1, 2**32 + 1, 2**64 - 1, 2**64 + 1, -1, -2**70:
+                    self.unchanged(SliceRange, {}, self.names.turn, slice)
+        self.exhausts(1, 3, 3)
+        self.serve(snowgimmer.LARGEST_SLICE, 3, self.FOUND)
+
+    def test_none_held(self):
+        for slice in 1, 3, 2**20:
+            self.unchanged(NoneHeld, {}, self.names.turn, slice)
+        self.assertIsNone(self.names.last_served)
+        self.keep(3, 2)
+        self.serve(3, 3, self.FOUND)
+        self.unchanged(NoneHeld, {}, self.names.turn, 3)
+        self.assertEqual(self.names.last_served, 3)
+
+    def test_one_after_the_other(self):
+        for held in (1, 2), (2, 5, 8):
+            self.names.clear()
+            self.hold(held, 0)
+            for nodes in 1, 2, 3:
+                for name in held:
+                    self.exhausts(1, name, nodes, 2.0 if nodes < 2 else 0.25)
+
+    def test_before_the_first(self):
+        self.hold(range(1, 9), 2)
+        stored = self.names.to_bytes()
+        for last, name in (0, 1), (8, 1), (9, 1), (2**32, 1), (2**64 - 1, 1), (1, 2), (4, 5), (7, 8):
+            self.names = Names.from_bytes(stored)
+            self.set("Q", self.LAST, last)
+            self.assertEqual(self.names.last_served, last if last in range(1, 9) else None)
+            self.exhausts(1, name, 3)
+
+    def test_last_served(self):
+        """A program that looks from 1 on again would serve name 1."""
+        self.hold(range(1, 5), 2)
+        self.exhausts(1, 1, 3)
+        self.serve(3, 2, self.FOUND)
+        # emptied by its turn
+        self.exhausts(1, 3, 3)
+        # emptied by a pickup
+        self.assertEqual(self.names.pick_up(3, 2), self.FOUND)
+        self.assertEqual(self.names.last_served, 3)
+        self.exhausts(1, 4, 3)
+        # emptied and filled again
+        self.names.clear()
+        self.hold([1, 2, 3], 2)
+        self.serve(3, 1, self.FOUND)
+        self.keep(1, 2)
+        self.exhausts(1, 2, 3)
+        # replaced
+        self.keep(2, 0)
+        self.exhausts(1, 3, 3)
+        # a pickup is no turn, nor is one that is refused
+        self.exhausted(4, 0.25, self.names.pick_up, 1, 2)
+        self.unchanged(SliceRange, {}, self.names.turn, 0)
+        self.serve(1, 1, self.FOUND)
+        self.exhausts(1, 2, 1, 2.0)
+
+    def test_alone(self):
+        self.keep(5, 2)
+        self.exhausts(1, 5, 3)
+        self.exhausts(1, 5, 4)
+        self.serve(1, 5, self.FOUND)
+        self.assertEqual(self.names.held(), {})
+
+    def test_eight_searches(self):
+        """Each needs 3 nodes more, and the eighth ends by turn 8*k, where k slices are 3 nodes or more."""
+        self.hold(range(1, 9), 2)
+        for name in range(1, 9):
+            self.serve(3, name, self.FOUND)
+        self.unchanged(NoneHeld, {}, self.names.turn, 3)
+        self.hold(range(1, 9), 2)
+        for name in range(1, 9):
+            self.exhausts(2, name, 4)
+        for name in range(1, 9):
+            self.serve(2, name, self.FOUND)
+        # also if the other names are filled again at once
+        self.hold(range(1, 8), 4)
+        self.keep(8, 2)
+        for outcome in {"nodes": 4, "radius": 0.25}, self.FOUND:
+            for name in range(1, 8):
+                self.serve(2, name, self.FOUND)
+                self.keep(name, 4)
+            self.serve(2, 8, outcome)
+
+    def test_outcomes(self):
+        self.exhausted(1, 1.0, self.names.nearest, 8, *H, 1, 1)
+        turn = self.names.turn(1)
+        self.assertEqual((turn.name, turn.n, turn.found, turn.kept), (8, 2, None, False))
+        self.assertEqual((type(turn.refusal), turn.refusal.values), (OutsideRadius, {"radius": 1.0}))
+        self.assertEqual(self.names.held(), {})
+        for n in 1, 2, 22, 23:
+            table = [1] * n, [0] * (n * n), [i - 0.25 for i in range(n)], 2
+            self.exhausted(0, 2.0, self.names.nearest, 4, *table, 0)
+            turn = self.names.turn(slice=2**20)
+            self.assertEqual(turn, (4, n, nearest(*table, 2**60), None, False))
+            self.assertEqual(turn.found.point, tuple(range(n)))
+
+    def test_the_limit(self):
+        """The nodes of name 3 are set by hand, with so many left up to 2^60."""
+        for left in range(5):
+            for slice in range(1, 6):
+                self.names.clear()
+                self.hold([3, 4], 2)
+                nodes = 2**60 - left
+                self.set("Q", self.COUNTS + 2 * 96 + 1, nodes)
+                if slice > left:
+                    # so that it is seen which radius is told: what is kept is 0.25
+                    self.set("d", 2 * 646 + 576, 0.1875)
+                    self.assertFalse(self.exhausts(slice, 3, nodes, 0.1875).kept)
+                    self.unchanged(NameEmpty, {}, self.names.pick_up, 3, 0)
+                elif slice < 3:
+                    self.assertTrue(self.exhausts(slice, 3, nodes + slice).kept)
+                    self.exhausted(nodes + slice, 0.25, self.names.pick_up, 3, 0)
+                else:
+                    self.serve(slice, 3, ((0, 1), nodes + 3, 0.25))
+                self.serve(3, 4, self.FOUND)
+
+    def test_bytes(self):
+        self.hold([2, 6], 0)
+        self.exhausts(1, 2, 1, 2.0)
+        stored = self.names.to_bytes()
+        self.assertEqual(stored[8 * self.LAST:], struct.pack("Q", 2))
+        for again in Names.from_bytes(stored), copy.copy(self.names), pickle.loads(pickle.dumps(self.names)):
+            self.assertEqual((again.last_served, again.turn(1).name, again.last_served), (2, 6, 6))
+        # those of 0.11.0 end before the name last served
+        again = Names.from_bytes(stored[:53376])
+        self.assertEqual((again.last_served, again.held(), again.turn(1).name), (None, {2: 2, 6: 2}, 2))
+        self.names.clear()
+        self.assertEqual((self.names.last_served, self.names.to_bytes()), (None, bytes(snowgimmer.NAMES_SIZE)))
+        with self.assertRaises(AttributeError):
+            self.names.last_served = 3
+
+    def test_lengths(self):
+        """28, 6 of the block's slices, 29, 6 of the output; none of them changes anything."""
+        right, kinds = [5168, 736, 768], [ctypes.c_double, ctypes.c_int64, ctypes.c_uint64]
+        self.keep(3, 2)
+
+        def told(lengths, places, slice):
+            block = [(kind * length)() for kind, length in zip(kinds, lengths)]
+            for lent, whole in zip(block, self.names._block.slices()):
+                ctypes.memmove(lent, whole, min(ctypes.sizeof(lent), ctypes.sizeof(whole)))
+            last, name, n = (ctypes.c_uint64(each) for each in (5, 77, 77))
+            out = (ctypes.c_int64 * places)(*[7] * places)
+            before = [bytes(each) for each in (*block, last, out)]
+            answer = snowgimmer._answer("turn", block, ctypes.byref(last), out, places, slice, ctypes.byref(name),
+                                        ctypes.byref(n))
+            self.assertEqual((name.value, n.value), (0, 0))
+            self.assertEqual([bytes(each) for each in (*block, last, out)], before)
+            return answer
+
+        for places in 0, 22, 23, 24:
+            for wrong, expected in enumerate(right):
+                for found in 0, expected - 1, expected + 1:
+                    lengths = [*right[:wrong], found, *[0] * (2 - wrong)]
+                    self.assertEqual(told(lengths, places, 0), (28, 0, 0, 0.0))
+                    self.assertEqual(told(lengths, places, 3), (6, expected, found, 0.0))
+            self.assertEqual(told(right, places, 0), (28, 0, 0, 0.0))
+            if places != 23:
+                self.assertEqual(told(right, places, 3), (6, 23, places, 0.0))
+        self.names.clear()
+        for places in 0, 22, 23, 24:
+            self.assertEqual(told(right, places, 3), (29, 0, 0, 0.0))
+
+    def test_drawn(self):
+        """Eight searches served in turns give what each gives in one, and each within 8*k turns."""
+        draw, slice = random.Random(9), 100
+        searches = {name: self.drawn(draw, draw.randrange(6, 13)) for name in range(1, 9)}
+        for name, search in searches.items():
+            with self.assertRaises(BudgetExhausted):
+                self.names.nearest(name, *search, 0)
+        turns = 0
+        while self.names.held():
+            turn = self.names.turn(slice)
+            turns += 1
+            if not turn.kept:
+                self.assertEqual(turn.found, nearest(*searches[turn.name], 10**6))
+                self.assertLessEqual(turns, 8 * -(-turn.found.nodes // slice))
+                del searches[turn.name]
+        self.assertEqual(searches, {})
+
+    def test_side_by_side(self):
+        """Threads that share the names serve them together."""
+        draw, found = random.Random(10), {}
+        searches = {name: self.drawn(draw) for name in range(1, 9)}
+        for name, search in searches.items():
+            with self.assertRaises(BudgetExhausted):
+                self.names.nearest(name, *search, 0)
+
+        def run():
+            try:
+                while True:
+                    turn = self.names.turn(50)
+                    if turn.found:
+                        found[turn.name] = turn.found
+            except NoneHeld:
+                pass
+
+        threads = [threading.Thread(target=run) for _ in range(4)]
+        for each in threads:
+            each.start()
+        for each in threads:
+            each.join()
+        self.assertEqual(found, {name: nearest(*search, 10**6) for name, search in searches.items()})
 
 
 class Running(Test):
@@ -892,7 +1147,7 @@ class Refusals(Test):
 
     def test_one_class_a_number(self):
         kinds = snowgimmer.Refusal.__subclasses__()
-        self.assertEqual(sorted(kind.number for kind in kinds), [*range(2, 17), *range(18, 28)])
+        self.assertEqual(sorted(kind.number for kind in kinds), [*range(2, 17), *range(18, 30)])
         for kind in kinds:
             self.assertIs(getattr(snowgimmer, kind.__name__), kind)
             self.assertIn(kind.__name__, snowgimmer.__all__)
@@ -914,10 +1169,13 @@ class Refusals(Test):
         self.assertEqual(named("snowgimmer_refusal"), {0: "Success", **kinds})
         self.assertEqual(named("snowgimmer_verdict"), {k: str(each) for k, each in enumerate(snowgimmer._VERDICTS)})
         self.assertIn(f'SNOWGIMMER_VERSION "{snowgimmer.__version__}"', header)
-        for name in "LARGEST_DIMENSION", "LARGEST_SEARCHED", "LARGEST_LIST", "LARGEST_FACTOR", "NAMES", "NAMES_SIZE":
+        for name in ("LARGEST_DIMENSION", "LARGEST_SEARCHED", "LARGEST_LIST", "LARGEST_FACTOR", "LARGEST_SLICE",
+                     "NAMES", "NAMES_SIZE"):
             self.assertIn(f"SNOWGIMMER_{name} {getattr(snowgimmer, name)}\n", header)
-        for name, kind in snowgimmer._Block._fields_:
+        *slices, (last, _) = snowgimmer._Block._fields_
+        for name, kind in slices:
             self.assertIn(f"SNOWGIMMER_NAMES_{name.upper()} {kind._length_}\n", header)
+        self.assertIn(f"    uint64_t {last};", header)
         self.assertEqual(ctypes.sizeof(snowgimmer._Block), snowgimmer.NAMES_SIZE)
 
     def test_messages(self):
@@ -927,7 +1185,10 @@ class Refusals(Test):
         self.assertEqual((refusal.number, refusal.nodes, refusal.radius), (15, 4, 0.25))
         self.assertEqual(str(refusal), "refused 15, BudgetExhausted: the budget ran out after 4 nodes, with the radius "
                                        "at 0.25: a larger budget may do; a search under a name is kept, and pick_up "
-                                       "goes on with it")
+                                       "or turn goes on with it")
+        self.assertEqual(str(BudgetExhausted(nodes=2**60, radius=0.25)),
+                         "refused 15, BudgetExhausted: the budget ran out after 1152921504606846976 nodes, with the "
+                         "radius at 0.25: a search may try 2^60 at most; a smaller radius or a reduced table may do")
         self.assertEqual(str(TableSize(weights=65)), "refused 2, TableSize: the table has 65 weights: nearest and "
                                                      "list_points take at most 64, every other function at most 23")
         self.assertEqual(str(TableSize(weights=24)), "refused 2, TableSize: the table has 24 weights: nearest and "
@@ -961,6 +1222,10 @@ class Refusals(Test):
                                                        "1152921504606846977, above 2^60: give a smaller one")
         self.assertEqual(str(SumRange(sum=2**64 - 1)), "refused 27, SumRange: the budgets of the search sum up to "
                                                        "2^64-1 or more, above 2^60: give a smaller one")
+        self.assertEqual(str(SliceRange()), "refused 28, SliceRange: the slice is not from 1 to 2^20 nodes: give one "
+                                            "of these")
+        self.assertEqual(str(NoneHeld()), "refused 29, NoneHeld: no name holds a search, so there is none to serve: "
+                                          "Names.nearest keeps one if its budget runs out")
         self.assertIn("number 1 of the target or coefficients, given or transformed,", str(NonFinite(index=1)))
         for again in copy.copy(refusal), pickle.loads(pickle.dumps(refusal)):
             self.assertEqual((type(again), str(again), again.values), (BudgetExhausted, str(refusal), refusal.values))
@@ -1022,9 +1287,11 @@ class Plain(Test):
             self.wrong(TypeError, "budget is", names.pick_up, 3, budget)
         self.wrong(TypeError, "radius is", names.nearest, 3, *G, None, 2)
         self.wrong(ValueError, "mu has 1 rows: 2 are expected", names.nearest, 3, [1, 1], [[0] * 4], [0, 0], 2, 2)
-        for data in b"", bytes(53375), bytearray(53377):
-            self.wrong(ValueError, f"data has {len(data)} bytes: 53376 are expected", Names.from_bytes, data)
-        for data in 53376, "", None, [0] * 53376:
+        for slice in 9.0, True, "9", None, [9]:
+            self.wrong(TypeError, "slice is", names.turn, slice)
+        for data in b"", bytes(53375), bytearray(53377), bytes(53383), bytearray(53385):
+            self.wrong(ValueError, f"data has {len(data)} bytes: 53384 are expected", Names.from_bytes, data)
+        for data in 53384, "", None, [0] * 53384:
             self.wrong(TypeError, "bytes are expected", Names.from_bytes, data)
         self.wrong(TypeError, "argument", Names, 3)
         with self.assertRaises(AttributeError):
@@ -1169,7 +1436,10 @@ class Numpy(Test):
         self.assertEqual(change_reference(numpy.array([1, 2]), numpy.int64(0)), (-1, 1))
         self.assertEqual(TriangleCheck().feed(numpy.int64(3), numpy.float64("nan")).refusal.index, 3)
         self.assertIs(ratio(numpy.array([1.0, 3.0]), numpy.float64(9), numpy.int64(3), numpy.int64(1)), Ratio.HOLDS)
-        self.assertEqual(Names().nearest(numpy.int64(3), *table, 1, numpy.int64(9)).point, (0, 0))
+        names = Names()
+        self.assertEqual(names.nearest(numpy.int64(3), *table, 1, numpy.int64(9)).point, (0, 0))
+        self.assertRaises(BudgetExhausted, names.nearest, 3, *table, 1, 0)
+        self.assertEqual(names.turn(numpy.int64(9)).found.point, (0, 0))
         self.wrong(TypeError, "of type bool", nearest, numpy.array([True]), [0], [0], 1, 9)
         self.wrong(TypeError, "real number", nearest, [numpy.True_], [0], [0], 1, 9)
         self.wrong(TypeError, "no dimension", nearest, numpy.array(1.0), [0], [0], 1, 9)

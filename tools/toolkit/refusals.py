@@ -55,6 +55,9 @@ REFUSALS = {
                 "make one under it first; if its budget runs out it is kept there, until a pickup ends it"),
     27: Refusal("SumRange", "the budgets of a search that is picked up sum up to more than 2^60",
                 "give a smaller budget"),
+    28: Refusal("SliceRange", "the slice of a turn is not from 1 to 2^20", "give from 1 to 1048576 nodes"),
+    29: Refusal("NoneHeld", "no name holds a search that a turn could serve",
+                "make one under a name first; if its budget runs out it is kept there, until turns or pickups end it"),
 }
 
 

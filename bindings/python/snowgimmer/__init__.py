@@ -70,6 +70,8 @@ reduced ones.
     >>> names.pick_up(3, budget=3)
     Nearest(point=(0, 1), nodes=5, distance=0.25)
 
+Where several of them share one computer, `Names.turn` serves one after the other, each with a slice of nodes.
+
 In positioning a point's integers are cycles relative to a reference satellite. If that is lost, take another:
 
     >>> change_reference((0, 1), reference=1)
@@ -82,17 +84,18 @@ import ctypes
 import enum
 import math
 import threading
-from typing import NamedTuple, Tuple
+from typing import NamedTuple, Optional, Tuple
 
 from . import library as _library
 from . import values as _values
 from .refusals import (
     BudgetExhausted, BudgetRange, CandidateDistance, CandidateLength, CandidateOutside, ChangedRange, InvalidRadius,
-    LengthMismatch, ListFull, ListSize, MappedRange, MatrixRange, MuNonFinite, MuRange, NameEmpty, NameRange, NonFinite,
-    NotInverse, OutsideRadius, ReferenceIndex, Refusal, SettingRange, SumRange, TableSize, WeightRange, WidenedRadius)
+    LengthMismatch, ListFull, ListSize, MappedRange, MatrixRange, MuNonFinite, MuRange, NameEmpty, NameRange, NoneHeld,
+    NonFinite, NotInverse, OutsideRadius, ReferenceIndex, Refusal, SettingRange, SliceRange, SumRange, TableSize,
+    WeightRange, WidenedRadius)
 from .refusals import refusal as _refusal
 
-__version__ = "0.11.0"
+__version__ = "0.12.0"
 
 LARGEST_DIMENSION = 23  #: the largest n of every function with a table but `nearest` and `list_points`
 LARGEST_SEARCHED = 64  #: the largest n of these two; since 0.10.0, before it was 23
@@ -100,17 +103,18 @@ LARGEST_LIST = 4096
 LARGEST_BUDGET = 2**60
 LARGEST_FACTOR = 1000
 NAMES = 8  #: the largest name of a search in a `Names`; the smallest is 1
-NAMES_SIZE = 53376  #: how many bytes `Names.to_bytes` gives
+LARGEST_SLICE = 2**20  #: of `Names.turn`; the smallest is 1. Since 0.12.0
+NAMES_SIZE = 53384  #: how many bytes `Names.to_bytes` gives; before 0.12.0 8 fewer, without the name last served
 
 __all__ = [
     "nearest", "nearest_seeded", "nearest_ml", "prepared_nearest_ml", "list_points", "triangular_distance",
     "nearest_plane", "round_coefficients", "round_away", "change_reference", "ratio", "Names", "TriangleCheck",
-    "Nearest", "Listed", "ListedPoint", "Plane", "Ratio", "LARGEST_DIMENSION", "LARGEST_SEARCHED", "LARGEST_LIST",
-    "LARGEST_BUDGET", "LARGEST_FACTOR", "NAMES", "NAMES_SIZE",
+    "Nearest", "Turn", "Listed", "ListedPoint", "Plane", "Ratio", "LARGEST_DIMENSION", "LARGEST_SEARCHED",
+    "LARGEST_LIST", "LARGEST_BUDGET", "LARGEST_FACTOR", "LARGEST_SLICE", "NAMES", "NAMES_SIZE",
     "Refusal", "TableSize", "MuNonFinite", "MuRange", "WeightRange", "LengthMismatch", "NonFinite", "InvalidRadius",
     "BudgetRange", "CandidateLength", "CandidateDistance", "CandidateOutside", "WidenedRadius", "ListSize",
     "BudgetExhausted", "OutsideRadius", "ListFull", "ReferenceIndex", "ChangedRange", "SettingRange", "MatrixRange",
-    "NotInverse", "MappedRange", "NameRange", "NameEmpty", "SumRange",
+    "NotInverse", "MappedRange", "NameRange", "NameEmpty", "SumRange", "SliceRange", "NoneHeld",
 ]
 
 _loaded = _library.load()
@@ -124,6 +128,20 @@ class Nearest(NamedTuple):
     #: the vector's computed distance, a square: exactly its `triangular_distance`; of `prepared_nearest_ml` that of the
     #: vector before mapping, in the table's coordinates; from n = 24 on the sum that the search came to
     distance: float
+
+
+class Turn(NamedTuple):
+    """What `Names.turn` gives: which search it served, and what came of it. Since 0.12.0."""
+
+    name: int  #: the name that was served
+    n: int  #: the n of its search
+    found: Optional[Nearest]  #: what the search has found, if it ended with a point, and else None
+    #: None if a point was found; else BudgetExhausted, or OutsideRadius if no vector is inside the radius. It is not
+    #: raised
+    refusal: Optional[Refusal]
+    #: whether the name still holds the search. If not, the search has ended: with a point, with OutsideRadius, or with
+    #: BudgetExhausted because with this slice its nodes would have passed 2**60
+    kept: bool
 
 
 class ListedPoint(NamedTuple):
@@ -308,17 +326,18 @@ def prepared_nearest_ml(weights, mu, transform, inverse, target, budget):
     return Nearest(tuple(out), nodes, distance)
 
 
-def _name(name):
-    """A name for the library to judge; 0, which is none, in the place of one that is no unsigned 64-bit integer."""
-    found = _values.whole("name", name, -math.inf, math.inf)
+def _judged(name, value):
+    """A name or slice for the library to judge; 0, which it refuses, for one that is no unsigned 64-bit integer."""
+    found = _values.whole(name, value, -math.inf, math.inf)
     return found if 0 <= found < 2**64 else 0
 
 
 class _Block(ctypes.Structure):
     """struct snowgimmer_names of the header. It starts as zeros, which are eight empty names."""
 
+    # the last is an array of one, so that it can be lent
     _fields_ = [("reals", ctypes.c_double * 5168), ("integers", ctypes.c_int64 * 736),
-                ("counts", ctypes.c_uint64 * 768)]
+                ("counts", ctypes.c_uint64 * 768), ("last", ctypes.c_uint64 * 1)]
 
     def slices(self):
         return self.reals, self.integers, self.counts
@@ -355,8 +374,8 @@ class Names:
     nodes as its budget says. But what is found then is only what these numbers say.
 
     A refusal leaves everything as it was. THE EXCEPTIONS: BudgetExhausted keeps the search, and OutsideRadius from
-    `pick_up` empties the name. Where two threads use the same `Names`, one waits for the other's call to end. If tables
-    and targets are confidential, `clear` it after use. Since 0.11.0.
+    `pick_up` empties the name; a `turn` does the same, and raises neither. Where two threads use the same `Names`, one
+    waits for the other's call to end. If tables and targets are confidential, `clear` it after use. Since 0.11.0.
     """
 
     __slots__ = ("_block", "_lock")
@@ -377,6 +396,13 @@ class Names:
             return refusal.expected
         raise AssertionError("the library keeps no search with n = 0")
 
+    def _is_held(self, name):
+        try:
+            self._dimension(name)
+        except NameEmpty:
+            return False
+        return True
+
     def nearest(self, name, weights, mu, target, radius, budget):
         """The nearest integer vector inside the radius, as a `Nearest`, by a search under a name. n is at most 23.
 
@@ -387,7 +413,7 @@ class Names:
         Raises, in this order, NameRange if the name is not from 1 to 8, 2 to 9 for the table and the arguments, 2 if n
         is above 23, BudgetExhausted, and OutsideRadius if no vector is inside the radius.
         """
-        name, table = _name(name), _Table(weights, mu, target)
+        name, table = _judged("name", name), _Table(weights, mu, target)
         radius, budget, out = _values.double("radius", radius), _budget(budget), table.point()
         with self._lock:
             nodes, _, distance = self._call("nearest_named", name, (*table.slices(), out), radius, budget)
@@ -403,25 +429,75 @@ class Names:
         Raises, in this order, NameRange if the name is not from 1 to 8, NameEmpty if it holds no search, SumRange if
         the sum of the budgets is above 2**60, BudgetExhausted, and OutsideRadius if no vector is inside the radius.
         """
-        name, budget = _name(name), _budget(budget)
+        name, budget = _judged("name", name), _budget(budget)
         with self._lock:
             out = (ctypes.c_int64 * self._dimension(name))()
             nodes, _, distance = self._call("pick_up", name, [out], budget)
         return Nearest(tuple(out), nodes, distance)
 
+    def turn(self, slice):
+        """A turn of kept searches that share one computer: serves the next held name, and gives a `Turn`.
+
+        The search of the next held name after the one last served by a turn is picked up with a slice of nodes, from 1
+        to 2**20. After 8 comes 1, and empty names are passed over; the first turn looks from 1 on. The name comes with
+        every outcome: neither BudgetExhausted nor OutsideRadius is raised. They are the `refusal` of what is given.
+
+            >>> names, table = Names(), ([1, 1], [[0, 0], [0.5, 0]], [0.25, 0.5])
+            >>> for name, radius in (2, 2), (7, 0.5):
+            ...     try:
+            ...         names.nearest(name, *table, radius, budget=1)
+            ...     except BudgetExhausted:
+            ...         pass  # it is kept, and its turn comes
+            >>> while names.held():
+            ...     turn = names.turn(2)
+            ...     if turn.found:
+            ...         print(turn.name, "has found", turn.found.point, "at", turn.found.distance)
+            ...     elif not turn.kept:
+            ...         print(turn.name, "has ended:", turn.refusal)
+            7 has found (0, 1) at 0.25
+            2 has found (0, 1) at 0.25
+
+        No search waits for ever. One for which k more slices are enough has ended with the 8*k-th accepted turn, if all
+        turns have that slice, whatever is kept, picked up or emptied under other names meanwhile; it may be picked up
+        itself. It takes that no other search is kept in its place, and that no slice is due that would take it past
+        2**60 nodes. Only an accepted turn, one that gives a `Turn`, changes `last_served`: the name stays the last one
+        where it is emptied, filled again or picked up otherwise. If it alone is held, it is served again.
+        If the nodes of a search and the slice are above 2**60 together, its turn gives BudgetExhausted as the search
+        stands, with its nodes and its standing radius, and empties the name; `Turn.kept` is False then.
+        Raises SliceRange if the slice is not from 1 to 2**20, and NoneHeld if no name holds a search. Both leave
+        everything as it was. Since 0.12.0.
+        """
+        slice, out = _judged("slice", slice), (ctypes.c_int64 * LARGEST_DIMENSION)()
+        served, dimension = ctypes.c_uint64(), ctypes.c_uint64()
+        numbers = self._block.last, *_lent([out]), slice, ctypes.byref(served), ctypes.byref(dimension)
+        with self._lock:
+            number, *report = _answer("turn", self._block.slices(), *numbers)
+            name, n = served.value, dimension.value
+            kept = number == BudgetExhausted.number and self._is_held(name)
+        if number == 0:
+            nodes, _, distance = report
+            return Turn(name, n, Nearest(tuple(out[:n]), nodes, distance), None, False)
+        refusal = _refusal(number, *report)
+        if name == 0:
+            # a check refused the turn
+            raise refusal
+        return Turn(name, n, None, refusal, kept)
+
+    @property
+    def last_served(self):
+        """The name last served by a turn, or None before the first. It is stored in the bytes of `to_bytes`; a number
+        there that is no name counts as none. Since 0.12.0."""
+        with self._lock:
+            last = self._block.last[0]
+        return last if 1 <= last <= NAMES else None
+
     def held(self):
         """The names that hold a search, with the n of each, as a dictionary."""
-        found = {}
         with self._lock:
-            for name in range(1, NAMES + 1):
-                try:
-                    found[name] = self._dimension(name)
-                except NameEmpty:
-                    pass
-        return found
+            return {name: self._dimension(name) for name in range(1, NAMES + 1) if self._is_held(name)}
 
     def clear(self):
-        """Empties every name, by zeros."""
+        """Empties every name, by zeros, and makes the next turn the first."""
         with self._lock:
             ctypes.memset(ctypes.byref(self._block), 0, NAMES_SIZE)
 
@@ -432,12 +508,17 @@ class Names:
 
     @classmethod
     def from_bytes(cls, data):
-        """The names of bytes that `to_bytes` gave. Raises ValueError if they are not NAMES_SIZE in number."""
+        """The names of bytes that `to_bytes` gave. Raises ValueError if they are not NAMES_SIZE in number.
+
+        Those of 0.11.0, which are 8 fewer, are taken too: there were no turns.
+        """
         try:
             data = bytes(memoryview(data))
         except TypeError:
             raise TypeError(f"data is of type {type(data).__name__}: bytes are expected, as Names.to_bytes gives "
                             "them") from None
+        if len(data) == NAMES_SIZE - 8:
+            data += bytes(8)
         if len(data) != NAMES_SIZE:
             raise ValueError(f"data has {len(data)} bytes: {NAMES_SIZE} are expected, as Names.to_bytes gives them")
         names = cls()

@@ -10,8 +10,10 @@ DOUBLES = (ctypes.POINTER(ctypes.c_double), ctypes.c_size_t)
 INTEGERS = (ctypes.POINTER(ctypes.c_int64), ctypes.c_size_t)
 COUNTS = (ctypes.POINTER(ctypes.c_uint64), ctypes.c_size_t)
 TABLE = DOUBLES + DOUBLES
-NAMED = DOUBLES + INTEGERS + COUNTS + (ctypes.c_uint64,)
-REPORT = (ctypes.POINTER(ctypes.c_uint64), ctypes.POINTER(ctypes.c_uint64), ctypes.POINTER(ctypes.c_double))
+BLOCK = DOUBLES + INTEGERS + COUNTS
+NAMED = BLOCK + (ctypes.c_uint64,)
+TOLD = (ctypes.POINTER(ctypes.c_uint64),)
+REPORT = TOLD + TOLD + (ctypes.POINTER(ctypes.c_double),)
 RADIUS, BUDGET, INDEX = (ctypes.c_double,), (ctypes.c_uint64,), (ctypes.c_size_t,)
 VERDICT, ENTRY = (ctypes.c_uint32, ctypes.c_uint64), (ctypes.c_double,)
 FACTORS = (ctypes.c_uint64, ctypes.c_uint64)
@@ -27,6 +29,7 @@ ARGUMENTS = {
     "prepared_nearest_ml": TABLE + INTEGERS + INTEGERS + DOUBLES + INTEGERS + BUDGET,
     "nearest_named": NAMED + TABLE + DOUBLES + INTEGERS + RADIUS + BUDGET,
     "pick_up": NAMED + INTEGERS + BUDGET,
+    "turn": BLOCK + TOLD + INTEGERS + BUDGET + TOLD + TOLD,
     "list": TABLE + DOUBLES + DOUBLES + INTEGERS + RADIUS + BUDGET,
     "round": DOUBLES + INTEGERS,
     "nearest_plane": TABLE + DOUBLES + INTEGERS,

@@ -7,8 +7,8 @@ class Refusal(Exception):
     `number` is the refusal's number, `name` its name and `values` what it carries, by name; each value is also an
     attribute. Each number has a class of its own below; 17 is free, and no refusal has it.
 
-    No value is minus zero, but for a pickup from bytes that this module has not written: where 12, 15 and 16 gave a radius of minus zero back
-    before 0.5.0, they give 0.0.
+    No value is minus zero, but for a pickup or a turn from bytes that this module has not written: where 12, 15 and 16
+    gave a radius of minus zero back before 0.5.0, they give 0.0.
     """
 
     number = 0
@@ -156,13 +156,19 @@ class ListSize(Refusal):
 class BudgetExhausted(Refusal):
     """15: the budget ran out; the nodes tried and the radius that stood then.
 
-    A search of `Names` is kept then; its nodes are all since its start.
+    A search of `Names` is kept then; its nodes are all since its start. The exception is a turn by which they would
+    pass 2^60: `Turn.kept` tells.
     """
 
     number = 15
     fields = ("nodes", "radius")
-    sentence = ("the budget ran out after {nodes} nodes, with the radius at {radius}: a larger budget may do; a search "
-                "under a name is kept, and pick_up goes on with it")
+
+    def text(self):
+        told = "the budget ran out after {nodes} nodes, with the radius at {radius}: ".format(**self.values)
+        # the last of them may have been a turn's, whose next slice would pass the limit
+        if self.values["nodes"] > 2**60 - 2**20:
+            return told + "a search may try 2^60 at most; a smaller radius or a reduced table may do"
+        return told + "a larger budget may do; a search under a name is kept, and pick_up or turn goes on with it"
 
 
 class OutsideRadius(Refusal):
@@ -268,6 +274,20 @@ class SumRange(Refusal):
         total = self.values["sum"]
         told = "2^64-1 or more" if total == 2**64 - 1 else total
         return f"the budgets of the search sum up to {told}, above 2^60: give a smaller one"
+
+
+class SliceRange(Refusal):
+    """28: the slice of a turn is not from 1 to 2^20."""
+
+    number = 28
+    sentence = "the slice is not from 1 to 2^20 nodes: give one of these"
+
+
+class NoneHeld(Refusal):
+    """29: no name holds a search that a turn could serve."""
+
+    number = 29
+    sentence = "no name holds a search, so there is none to serve: Names.nearest keeps one if its budget runs out"
 
 
 BY_NUMBER = {kind.number: kind for kind in Refusal.__subclasses__()}

@@ -111,6 +111,24 @@ unsafe extern "C" {
         real: *mut f64,
     ) -> u32;
 
+    pub(crate) fn snowgimmer_turn(
+        reals: *mut f64,
+        reals_len: usize,
+        integers: *mut i64,
+        integers_len: usize,
+        counts: *mut u64,
+        counts_len: usize,
+        last: *mut u64,
+        out: *mut i64,
+        out_len: usize,
+        slice: u64,
+        name: *mut u64,
+        n: *mut u64,
+        first: *mut u64,
+        second: *mut u64,
+        real: *mut f64,
+    ) -> u32;
+
     pub(crate) fn snowgimmer_list(
         weights: *const f64,
         weights_len: usize,

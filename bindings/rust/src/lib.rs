@@ -39,11 +39,12 @@
 //! its first point stands out. [`prepared_nearest_ml`], the original's `PreparedEnumerator::nearest_ml` with its matrices
 //! lent, takes a target in the receiver's coordinates and gives the point in them, by a table of reduced ones.
 //! [`TriangleCheck`] checks a table's entries one at a time, while the table is being received. [`nearest_named`] keeps a
-//! search whose budget runs out in [`Names`], which the caller owns, and [`pick_up`] goes on with it; the original has
-//! neither. Every one is that of the proved library: for all inputs its answer is the one that the library's contract
-//! fixes, and a refusal leaves every slice that it was lent as it was. **The exception** is [`Names`]: it is changed by
-//! [`Refusal::BudgetExhausted`] of [`nearest_named`] and [`pick_up`], since the search is kept there, and by
-//! [`Refusal::OutsideRadius`] of [`pick_up`], which empties the name.
+//! search whose budget runs out in [`Names`], which the caller owns, and [`pick_up`] goes on with it; [`Names::turn`]
+//! serves the searches that are kept there one after the other. The original has none of the three. Every one is that
+//! of the proved library: for all inputs its answer is the one that the library's contract fixes, and a refusal leaves
+//! every slice that it was lent as it was. **The exception** is [`Names`]: it is changed by
+//! [`Refusal::BudgetExhausted`] of [`nearest_named`], [`pick_up`] and a turn, since the search is kept there, and by
+//! [`Refusal::OutsideRadius`] of [`pick_up`] and a turn, which empties the name.
 //!
 //! The crate needs no standard library, allocates nothing, and keeps nothing between calls but in the caller's
 //! [`Names`]. The variable SNOWGIMMER_LIB names the folder of `libsnowgimmer.a`, or the file, while a program is built.
@@ -84,7 +85,7 @@ mod refusal;
 mod table;
 mod triangle;
 
-pub use names::{Names, nearest_named, pick_up};
+pub use names::{Names, Turn, nearest_named, pick_up};
 pub use ratio::{Ratio, ratio};
 pub use refusal::Refusal;
 pub use table::{List, Nearest, Point, Table};
@@ -108,8 +109,11 @@ pub const LARGEST_FACTOR: u64 = 1000;
 /// The largest name under which a search is kept; the smallest is 1.
 pub const NAMES: u64 = 8;
 
-/// How many bytes a [`Names`] has.
-pub const NAMES_SIZE: usize = 53_376;
+/// The largest slice of a [`Names::turn`]; the smallest is 1. Since 0.12.0.
+pub const LARGEST_SLICE: u64 = 1 << 20;
+
+/// How many bytes a [`Names`] has. Before 0.12.0 it had 8 less, since it was without the name last served.
+pub const NAMES_SIZE: usize = 53_384;
 
 /// What a call tells beside the slices that it is lent.
 #[derive(Default)]

@@ -1,8 +1,9 @@
-//! Searches that are kept under names when their budget runs out, and are picked up with a further one.
+//! Searches that are kept under names when their budget runs out, are picked up with a further one, and take turns.
 
-use crate::{Found, NAMES_SIZE, Nearest, Refusal, ffi, told};
+use crate::{Found, LARGEST_DIMENSION, NAMES, NAMES_SIZE, Nearest, Refusal, ffi, told};
 use core::fmt;
 use core::hint::black_box;
+use core::iter::once;
 
 const REALS: usize = 5168;
 const INTEGERS: usize = 736;
@@ -28,7 +29,9 @@ const COUNTS: usize = 768;
 /// # Ok::<(), Refusal>(())
 /// ```
 ///
-/// **It has 53,376 bytes**, and the crate allocates nothing. A small stack may not have room for it as a local. A
+/// Where several searches share one computer, [`Names::turn`] serves one after the other.
+///
+/// **It has 53,384 bytes**, and the crate allocates nothing. A small stack may not have room for it as a local. A
 /// static one, for which [`Names::new`] is `const`, is never on a stack; `Box::new(Names::new())` may be for a moment.
 ///
 /// ```
@@ -54,6 +57,8 @@ pub struct Names {
     reals: [f64; REALS],
     integers: [i64; INTEGERS],
     counts: [u64; COUNTS],
+    // the name last served by a turn, 0 before the first
+    last: u64,
 }
 
 const _: () = assert!(size_of::<Names>() == NAMES_SIZE);
@@ -62,14 +67,15 @@ impl Names {
     /// Eight empty names.
     #[must_use]
     pub const fn new() -> Self {
-        Self { reals: [0.0; REALS], integers: [0; INTEGERS], counts: [0; COUNTS] }
+        Self { reals: [0.0; REALS], integers: [0; INTEGERS], counts: [0; COUNTS], last: 0 }
     }
 
-    /// Empties every name, by zeros.
+    /// Empties every name, by zeros, and makes the next turn the first.
     pub fn clear(&mut self) {
         self.reals.fill(0.0);
         self.integers.fill(0);
         self.counts.fill(0);
+        self.last = 0;
         // so that the zeros are written also where nothing reads them
         black_box(self);
     }
@@ -81,6 +87,91 @@ impl Names {
     /// Those of [`pick_up`], but for 6.
     pub fn pick_up(&mut self, name: u64, budget: u64) -> Result<Nearest, Refusal> {
         Nearest::written(self.dimension(name)?, |out| pick_up(self, name, out, budget))
+    }
+
+    /// A turn of kept searches that share one computer: picks up the next held name after the one last served by a
+    /// turn, with a slice of nodes from 1 to 2^20, and gives that name with what came of it. After 8 comes 1, and empty
+    /// names are passed over; the first turn looks from 1 on. The call needs 16 kB of stack.
+    ///
+    /// ```
+    /// use snowgimmer::{Names, Refusal, Table};
+    ///
+    /// let mut names = Names::new();
+    /// let table = Table::from_rows(&[1.0, 1.0], &[[0.0, 0.0], [0.5, 0.0]]);
+    /// for name in [2, 7] {
+    ///     assert!(table.nearest_named(&mut names, name, &[0.25, 0.5], 2.0, 1).is_err());
+    /// }
+    /// let mut ended = vec![];
+    /// loop {
+    ///     match names.turn(2) {
+    ///         Ok(turn) if turn.kept => (), // what can't wait is done here
+    ///         Ok(turn) => ended.push((turn.name, turn.answer.map(|found| found.nodes))),
+    ///         Err(Refusal::NoneHeld) => break,
+    ///         Err(refusal) => return Err(refusal),
+    ///     }
+    /// }
+    /// assert_eq!(ended, [(2, Ok(5)), (7, Ok(5))]);
+    /// # Ok::<(), Refusal>(())
+    /// ```
+    ///
+    /// **No search waits for ever.** One for which k more slices are enough has ended with the 8·k-th accepted turn, if
+    /// all turns have that slice, whatever is kept, picked up or emptied under other names meanwhile; it may be picked
+    /// up itself. It takes that no other search is kept in its place, and that no slice is due that would take it past
+    /// 2^60 nodes. Only an accepted turn, one that gives a [`Turn`], changes [`Names::last_served`]: the name stays the
+    /// last one where it is emptied, filled again or picked up otherwise. If it alone is held, it is served again.
+    ///
+    /// **The limit.** If the nodes of a search and the slice are above 2^60 together, its turn answers
+    /// [`Refusal::BudgetExhausted`] as the search stands, with its nodes and its standing radius, and empties the name.
+    /// [`Turn::kept`] tells this from a search that is kept.
+    ///
+    /// # Errors
+    ///
+    /// In this order: [`Refusal::SliceRange`]; [`Refusal::NoneHeld`]. Both leave everything as it was. How the search
+    /// that was served ended is in [`Turn::answer`].
+    ///
+    /// Since 0.12.0.
+    pub fn turn(&mut self, slice: u64) -> Result<Turn, Refusal> {
+        let (mut out, mut name, mut n) = ([0; LARGEST_DIMENSION], 0, 0);
+        // SAFETY: live slices with their own lengths, and locals; none of them is another's (see the crate's head)
+        let answer = told(|r| unsafe {
+            ffi::snowgimmer_turn(
+                self.reals.as_mut_ptr(),
+                self.reals.len(),
+                self.integers.as_mut_ptr(),
+                self.integers.len(),
+                self.counts.as_mut_ptr(),
+                self.counts.len(),
+                &mut self.last,
+                out.as_mut_ptr(),
+                out.len(),
+                slice,
+                &mut name,
+                &mut n,
+                &mut r.first,
+                &mut r.second,
+                &mut r.real,
+            )
+        });
+        let n = n as usize;
+        match answer {
+            // a check refused the turn, and no name was served
+            Err(refusal) if name == 0 => Err(refusal),
+            Err(refusal) => Ok(Turn { name, n, answer: Err(refusal), kept: self.dimension(name).is_ok() }),
+            Ok(report) => {
+                let answer = Nearest::written(n, |point| {
+                    point.copy_from_slice(&out[..n]);
+                    Ok(Found { nodes: report.first, distance: report.real })
+                });
+                Ok(Turn { name, n, answer, kept: false })
+            }
+        }
+    }
+
+    /// The name last served by a turn, or `None` before the first. It is stored with the block's bytes; a number there
+    /// that is no name counts as none. Since 0.12.0.
+    #[must_use]
+    pub fn last_served(&self) -> Option<u64> {
+        (1..=NAMES).contains(&self.last).then_some(self.last)
     }
 
     /// n of the search that a name holds. The block is lent for the asking, and not changed.
@@ -119,13 +210,14 @@ impl Names {
     pub fn write_to(&self, bytes: &mut [u8; NAMES_SIZE]) {
         let reals = self.reals.iter().map(|x| x.to_ne_bytes());
         let integers = self.integers.iter().map(|z| z.to_ne_bytes());
-        let counts = self.counts.iter().map(|k| k.to_ne_bytes());
+        let counts = self.counts.iter().chain(once(&self.last)).map(|k| k.to_ne_bytes());
         for (place, element) in bytes.chunks_exact_mut(8).zip(reals.chain(integers).chain(counts)) {
             place.copy_from_slice(&element);
         }
     }
 
-    /// Takes the block from such bytes, whoever wrote them, in the place of what was in it.
+    /// Takes the block from such bytes, whoever wrote them, in the place of what was in it. Those of 0.11.0 are 8
+    /// fewer: put zeros behind them.
     pub fn read_from(&mut self, bytes: &[u8; NAMES_SIZE]) {
         let mut elements = bytes.chunks_exact(8).map(|place| {
             let mut element = [0; 8];
@@ -134,7 +226,8 @@ impl Names {
         });
         self.reals.iter_mut().zip(&mut elements).for_each(|(x, element)| *x = f64::from_ne_bytes(element));
         self.integers.iter_mut().zip(&mut elements).for_each(|(z, element)| *z = i64::from_ne_bytes(element));
-        self.counts.iter_mut().zip(&mut elements).for_each(|(k, element)| *k = u64::from_ne_bytes(element));
+        let counts = self.counts.iter_mut().chain(once(&mut self.last));
+        counts.zip(&mut elements).for_each(|(k, element)| *k = u64::from_ne_bytes(element));
     }
 }
 
@@ -149,6 +242,23 @@ impl fmt::Debug for Names {
     fn fmt(&self, f: &mut fmt::Formatter<'_>) -> fmt::Result {
         f.debug_struct("Names").finish_non_exhaustive()
     }
+}
+
+/// What [`Names::turn`] gives: which search it served, and what came of it. Since 0.12.0.
+#[derive(Debug, Clone, Copy, PartialEq)]
+#[non_exhaustive]
+pub struct Turn {
+    /// The name that was served.
+    pub name: u64,
+    /// The n of its search.
+    pub n: usize,
+    /// The answer of [`Names::pick_up`] under this name, with the slice for its budget: the point that was found,
+    /// [`Refusal::BudgetExhausted`] with all nodes since the start of the search, or [`Refusal::OutsideRadius`].
+    pub answer: Result<Nearest, Refusal>,
+    /// Whether the name still holds the search. If not, the search has ended: by a point, by
+    /// [`Refusal::OutsideRadius`], or by [`Refusal::BudgetExhausted`] because with this slice its nodes would have
+    /// passed 2^60.
+    pub kept: bool,
 }
 
 /// The search of [`nearest`](crate::nearest), with n up to 23, under a name from 1 to 8. The point that it writes to
@@ -226,7 +336,7 @@ pub fn nearest_named(
 /// If it ends with a point or with [`Refusal::OutsideRadius`], the name is empty then. If it ends with
 /// [`Refusal::BudgetExhausted`], the search is kept again where it stopped; the nodes told are all so far, which is the
 /// sum of the budgets. A budget of 0 is taken, and tells the same again. [`Names::pick_up`] gives the point by value,
-/// and needs no n. The call needs 13 kB of stack.
+/// and needs no n. The call needs 16 kB of stack.
 ///
 /// ```
 /// use snowgimmer::{Names, Refusal, nearest_named, pick_up};

@@ -1,6 +1,6 @@
 //! The numbered refusals, with what each carries.
 
-use crate::{LARGEST_DIMENSION, LARGEST_SEARCHED};
+use crate::{LARGEST_BUDGET, LARGEST_DIMENSION, LARGEST_SEARCHED, LARGEST_SLICE};
 use core::error::Error;
 use core::fmt;
 
@@ -80,7 +80,8 @@ pub enum Refusal {
         /// How many distances there are.
         distances: usize,
     },
-    /// 15: the budget ran out. A search under a name is kept then, and `pick_up` goes on with it.
+    /// 15: the budget ran out. A search under a name is kept then, and `pick_up` or a turn goes on with it; the
+    /// exception is a turn by which its nodes would pass 2^60, see [`Turn::kept`](crate::Turn::kept).
     BudgetExhausted {
         /// How many nodes were tried; of a search that was picked up, all since its start.
         nodes: u64,
@@ -130,6 +131,10 @@ pub enum Refusal {
         /// The sum, or `u64::MAX` if it is larger than that.
         sum: u64,
     },
+    /// 28: the slice of a turn is not from 1 to 2^20.
+    SliceRange,
+    /// 29: no name holds a search that a turn could serve.
+    NoneHeld,
 }
 
 impl Refusal {
@@ -162,6 +167,8 @@ impl Refusal {
             25 => Self::NameRange,
             26 => Self::NameEmpty,
             27 => Self::SumRange { sum: first },
+            28 => Self::SliceRange,
+            29 => Self::NoneHeld,
             _ => unreachable!("the library has no refusal {number}"),
         }
     }
@@ -195,6 +202,8 @@ impl Refusal {
             Self::NameRange => 25,
             Self::NameEmpty => 26,
             Self::SumRange { .. } => 27,
+            Self::SliceRange => 28,
+            Self::NoneHeld => 29,
         }
     }
 }
@@ -234,11 +243,18 @@ impl fmt::Display for Refusal {
             Self::ListSize { distances: d } => {
                 write!(f, "{d} distances: at most 4096 are taken, and n coordinates for each")
             }
+            Self::BudgetExhausted { nodes, radius } if nodes > LARGEST_BUDGET - LARGEST_SLICE => {
+                write!(
+                    f,
+                    "the budget ran out after {nodes} nodes, with the radius at {radius:?}: a search may try 2^60 at \
+                    most; a smaller radius or a reduced table may do"
+                )
+            }
             Self::BudgetExhausted { nodes, radius } => {
                 write!(
                     f,
                     "the budget ran out after {nodes} nodes, with the radius at {radius:?}: a larger budget may do; a \
-                    search under a name is kept, and pick_up goes on with it"
+                    search under a name is kept, and pick_up or turn goes on with it"
                 )
             }
             Self::OutsideRadius { radius } => {
@@ -301,6 +317,13 @@ impl fmt::Display for Refusal {
             }
             Self::SumRange { sum } => {
                 write!(f, "the budgets of the search sum up to {sum}, above 2^60: give a smaller one")
+            }
+            Self::SliceRange => write!(f, "the slice is not from 1 to 2^20 nodes: give one of these"),
+            Self::NoneHeld => {
+                write!(
+                    f,
+                    "no name holds a search, so there is none to serve: nearest_named keeps one if its budget runs out"
+                )
             }
         }
     }

@@ -268,7 +268,12 @@ fn told_in_words() {
     told(
         Refusal::BudgetExhausted { nodes: 4, radius: 0.25 },
         "refused 15: the budget ran out after 4 nodes, with the radius at 0.25: a larger budget may do; a search under a \
-        name is kept, and pick_up goes on with it",
+        name is kept, and pick_up or turn goes on with it",
+    );
+    told(
+        Refusal::BudgetExhausted { nodes: 1 << 60, radius: 0.25 },
+        "refused 15: the budget ran out after 1152921504606846976 nodes, with the radius at 0.25: a search may try 2^60 \
+        at most; a smaller radius or a reduced table may do",
     );
     told(
         Refusal::ListFull { points: 5 },
@@ -320,6 +325,11 @@ fn told_in_words() {
     told(
         Refusal::SumRange { sum: u64::MAX },
         "refused 27: the budgets of the search sum up to 2^64-1 or more, above 2^60: give a smaller one",
+    );
+    told(Refusal::SliceRange, "refused 28: the slice is not from 1 to 2^20 nodes: give one of these");
+    told(
+        Refusal::NoneHeld,
+        "refused 29: no name holds a search, so there is none to serve: nearest_named keeps one if its budget runs out",
     );
     let error: &dyn std::error::Error = &Refusal::OutsideRadius { radius: 1.0 };
     assert_eq!(error.to_string(), "refused 16: no vector is inside the radius 1.0: a larger one may do");

@@ -48,6 +48,10 @@ fn names() {
     let kept = within(68 << 10, || nearest_named(&mut names, 1, &WEIGHTS, &MU, &TARGET, &mut out, 0.0, 9));
     assert_eq!((kept, out), (Err(exhausted), [1; N]));
     search(68 << 10, |out| pick_up(&mut names, 1, out, 1000));
+    let kept = within(68 << 10, || nearest_named(&mut names, 1, &WEIGHTS, &MU, &TARGET, &mut out, 0.0, 9));
+    assert_eq!(kept, Err(exhausted));
+    let found = within(68 << 10, || names.turn(1000)).unwrap().answer.unwrap();
+    assert_eq!((found.nodes, found.distance, &found.point[..]), (N as u64, 0.0, &ZERO[..]));
     search(68 << 10, |out| nearest_named(&mut names, 1, &WEIGHTS, &MU, &TARGET, out, 0.0, 1000));
 }
 

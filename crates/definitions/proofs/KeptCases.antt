@@ -15,19 +15,19 @@ use Rattle.definitions.specs.Named.{nearestNamed, blockAfterNamed, pickU
 abbrev half : Float
 half = fin false 1 (negsuc 0)
 
-abbrev quarter : Float
+abbrev pub quarter : Float
 quarter = fin false 1 (negsuc 1)
 
-abbrev two : Float
+abbrev pub two : Float
 two = fin false 1 (pos 1)
 
-abbrev tableG : Table
+abbrev pub tableG : Table
 tableG = record { weights = one ∷ one ∷ []; mu = plusZero ∷ plusZero ∷ half ∷ plusZero ∷ [] }
 
-abbrev targetG : List Float
+abbrev pub targetG : List Float
 targetG = quarter ∷ half ∷ []
 
-abbrev empty : Block
+abbrev pub empty : Block
 empty = record { reals = replicate 5168 plusZero; integers = replicate 736 (pos 0); counts = replicate 768 0 }
 
 -- the output as it is lent

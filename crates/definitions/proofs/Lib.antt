@@ -23,6 +23,7 @@ pub mod Answers
 pub mod Prepared
 pub mod Block
 pub mod Named
+pub mod Turn
 pub mod HandedOn
 pub mod Settings
 pub mod Ratios

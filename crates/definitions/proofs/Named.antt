@@ -51,7 +51,7 @@ not-refused-so : (b : Bool) (e : Refusal) → refuseIf b e ≡ pass → b ≡ fa
 not-refused-so true e q = absurd (refuse≢pass q)
 not-refused-so false e q = refl
 
-both-true : (a b : Bool) → not (a && b) ≡ false → (a ≡ true) × (b ≡ true)
+pub both-true : (a b : Bool) → not (a && b) ≡ false → (a ≡ true) × (b ≡ true)
 both-true true true e = (refl, refl)
 both-true true false e = let z : _≡_ {A = ℕ} 0 1 = cc in absurd (omega arith)
 both-true false b e = let z : _≡_ {A = ℕ} 0 1 = cc in absurd (omega arith)

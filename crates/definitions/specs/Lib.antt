@@ -20,6 +20,7 @@ pub mod Prepared
 pub mod Kept
 pub mod Block
 pub mod Named
+pub mod Turn
 pub mod Settings
 pub mod Ratio
 pub mod Reference

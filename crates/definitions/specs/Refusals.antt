@@ -117,3 +117,11 @@ nameEmpty = record { number = 26; values = [] }
 -- 27 (the sum, or the largest number that can be told)
 abbrev pub sumRange : ℕ → Refusal
 sumRange sum = record { number = 27; values = whole sum ∷ [] }
+
+-- 28 (nothing)
+abbrev pub sliceRange : Refusal
+sliceRange = record { number = 28; values = [] }
+
+-- 29 (nothing)
+abbrev pub noneHeld : Refusal
+noneHeld = record { number = 29; values = [] }

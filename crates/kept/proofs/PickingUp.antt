@@ -32,6 +32,17 @@ use Rattle.kept.specs.Part.{overAnswer, WentOn, partChecks, PartPickedUp
 use Rattle.kept.proofs.Checks.{part-empty, part-length, part-sum, part-passes}
 use Rattle.kept.proofs.Walks.{over-answer, over-left, going-answer, going-left}
 
+-- three slices that hold a part, and a part of zeros
+pub holds-block : {q : Block} {reals : List Float} {integers : List ℤ} {counts : List ℕ} → Holds q reals integers counts → block reals integers counts ≡ q
+holds-block x = λ i. record { reals = x .reals-are i; integers = x .integers-are i; counts = x .counts-are i }
+
+pub zeros-are : (p : Block) → PartLengths p → zeros p ≡ zeroPart
+zeros-are p lengths = λ i. record { reals = replicate (lengths .reals-length i) plusZero; integers = replicate (lengths .integers-length i) (pos 0); counts = replicate (lengths .counts-length i) 0 }
+
+-- a sound part holds its search
+pub part-held : (p : Block) → isSound (p .counts) ≡ true → partSlot p ≡ holds (partHeld p)
+part-held p sound = ap (λ (b : Bool). cond b (holds (partHeld p)) free) sound
+
 module _ (p : Block) (lengths : PartLengths p) (out : List ℤ) (budget : ℕ) where
   abbrev verdict : Verdict
   verdict = firstRefusal (partChecks (partSlot p) out budget)
@@ -51,7 +62,7 @@ module _ (p : Block) (lengths : PartLengths p) (out : List ℤ) (budget : ℕ) w
     n = partDimension (p .counts)
 
     held : partSlot p ≡ holds (partHeld p)
-    held = ap (λ (b : Bool). cond b (holds (partHeld p)) free) sound
+    held = part-held p sound
 
     pub dimension-is : dimension (partTable p) ≡ n
     dimension-is = length-take-le n (p .reals) (omega (arith, lengths .reals-length, sound-counts (p .counts) sound .small))
@@ -86,16 +97,10 @@ module _ (p : Block) (lengths : PartLengths p) (out : List ℤ) (budget : ℕ) w
         part-left : ifPassed verdict p (rewritten p (furtherSlot budget (partSlot p))) ≡ rewritten p (ifOver (h .walk .stack) free (holds h))
         part-left = ap (λ (v : Verdict). ifPassed v p (rewritten p (furtherSlot budget (partSlot p)))) passes ∙ ap (λ (x : Slot). rewritten p (furtherSlot budget x)) held
 
-        zeros-are : zeros p ≡ zeroPart
-        zeros-are = λ i. record { reals = replicate (lengths .reals-length i) plusZero; integers = replicate (lengths .integers-length i) (pos 0); counts = replicate (lengths .counts-length i) 0 }
-
-        holds-block : {q : Block} {reals : List Float} {integers : List ℤ} {counts : List ℕ} → Holds q reals integers counts → block reals integers counts ≡ q
-        holds-block x = λ i. record { reals = x .reals-are i; integers = x .integers-are i; counts = x .counts-are i }
-
         pub over : s .count ≡ 0 → {reals : List Float} {integers : List ℤ} {counts : List ℕ} → Holds (zeros p) reals integers counts → {r : NearestAnswer} {out′ : List ℤ} → NearestAnswered (overAnswer (getD (p .reals) 575 nan) s out) out r out′ → PartPickedUp p out budget r out′ (block reals integers counts)
         over none x a = record {
           answered = answered-as (sym (answer-is ∙ over-answer w s (h .walk) is none (getD (p .reals) 575 nan) out (e ∙ sym dimension-is))) a;
-          part-is = holds-block x ∙ zeros-are ∙ sym (part-left ∙ ap (rewritten p) (over-left w s (h .walk) is none free (holds h)));
+          part-is = holds-block x ∙ zeros-are p lengths ∙ sym (part-left ∙ ap (rewritten p) (over-left w s (h .walk) is none free (holds h)));
         }
 
         pub goes-on : (s .count ≡ 0 → ⊥) → {reals : List Float} {integers : List ℤ} {counts : List ℕ} → Holds (writtenWalk (take 576 (p .reals)) n (machineOf w s)) reals integers counts → PartPickedUp p out budget (Refused (BudgetExhausted (s .nodes) (s .radius))) out (block reals integers counts)

@@ -11,7 +11,7 @@ ghost use Rattle.refusals.specs.Numbers.{verdict};
 ghost use Rattle.parts.specs.Parts.{block};
 ghost use Rattle.kept.specs.Calls.{KeptAnswered};
 
-mod part;
+pub mod part;
 
 use checks::handed_on;
 use checks::nearest_check;
@@ -23,7 +23,7 @@ use refusals::Refusal;
 use refusals::Verdict;
 
 // 25, then 6 of the block's three slices.
-fn block_check(reals: &[f64], integers: &[i64], counts: &[u64], name: u64) -> Verdict
+pub fn block_check(reals: &[f64], integers: &[i64], counts: &[u64], name: u64) -> Verdict
     ensures { λ r. ⌜ verdict r ≡ firstRefusal (nameCheck name ∷ blockChecks (block (atEntry reals) (atEntry integers) (atEntry counts))) ⌝ }
 {
     if name < 1 {

@@ -57,6 +57,10 @@ pub enum Refusal {
     NameEmpty,
     // 27: the sum of a kept search's budgets is above 2^60 (the sum, or 2^64-1 if it is larger).
     SumRange(u64),
+    // 28: the slice is not from 1 to 2^20.
+    SliceRange,
+    // 29: no name holds a search.
+    NoneHeld,
 }
 
 // What a check says.
@@ -176,5 +180,7 @@ pub fn numbers(e: Refusal) -> Carried
         Refusal::NameRange => nothing(25),
         Refusal::NameEmpty => nothing(26),
         Refusal::SumRange(s) => whole(27, s),
+        Refusal::SliceRange => nothing(28),
+        Refusal::NoneHeld => nothing(29),
     }
 }

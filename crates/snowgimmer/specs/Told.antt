@@ -15,6 +15,7 @@ use Rattle.definitions.specs.Calls as C
 use Rattle.definitions.specs.Prepared.{mappedPoint, transformedOf, preparedNearestMl}
 use Rattle.definitions.specs.Block.{Block}
 use Rattle.definitions.specs.Named.{nearestNamed, blockAfterNamed, pickUp, blockAfterPickUp}
+use Rattle.definitions.specs.Turn.{turn, blockAfterTurn, lastAfterTurn, turnOutput}
 use Rattle.definitions.specs.Ratio.{ratioCall}
 use Rattle.definitions.specs.Reference.{changeReference, changeOutput}
 use Rattle.definitions.specs.Entries.{Entry, fed, givenVerdict}
@@ -22,6 +23,7 @@ use Rattle.theorems.specs.Promises.{NearestPromises, SeededPromises, MlPromises
 use Rattle.theorems.specs.Running.{NearestRunning, ListRunning}
 use Rattle.theorems.specs.Prepared.{PreparedPromises}
 use Rattle.theorems.specs.Kept.{NamedPromises, PickUpPromises}
+use Rattle.theorems.specs.Turns.{TurnPromises}
 use Rattle.theorems.specs.Doubles.{ofDoubles}
 use Rattle.theorems.specs.Settings.{RightP, RightQ}
 use Rattle.theorems.specs.Ratios.{Holds, Fails, Open, None, MeaningPromised, RatioCallPromises}
@@ -167,3 +169,14 @@ pub record PickUpTold (b : Block) (name : ℕ) (out : List ℤ) (budget : ℕ) (
   pub writes : out′ ≡ C.nearestOutput (pickUp b name out budget) out
   pub leaves : b′ ≡ blockAfterPickUp b name out budget
   pub promises : PickUpPromises b name out budget (pickUp b name out budget) out′ b′
+
+-- name and n are told beside the report; ′ marks what is there at exit
+pub record TurnTold (b : Block) (last : ℕ) (out : List ℤ) (slice : ℕ) (name n : ℕ) (r : Report) (out′ : List ℤ) (b′ : Block) (last′ : ℕ) : Type 0 where
+  pub tells-name : name ≡ turn b last out slice .name
+  pub tells-n : n ≡ turn b last out slice .n
+  pub tells : r ≡ ofNearest (turn b last out slice .answer)
+  pub told-as : PointTold (turn b last out slice .answer) r
+  pub writes : out′ ≡ turnOutput (turn b last out slice .answer) out
+  pub leaves : b′ ≡ blockAfterTurn b last out slice
+  pub leaves-last : last′ ≡ lastAfterTurn b last out slice
+  pub promises : TurnPromises b last out slice (turn b last out slice) out′ b′ last′

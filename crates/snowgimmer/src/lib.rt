@@ -9,7 +9,7 @@ ghost use Rattle.definitions.specs.Calls as C;
 ghost use Rattle.definitions.specs.Entries.{entryOf};
 ghost use Rattle.parts.specs.Parts.{block};
 ghost use Rattle.snowgimmer.specs.Reports.{toldAt};
-ghost use Rattle.snowgimmer.specs.Told.{DistanceTold, NearestTold, SeededTold, MlTold, PreparedTold, ListTold, RatioTold, RoundTold, PlaneTold, ChangeTold, EntryTold, NamedTold, PickUpTold};
+ghost use Rattle.snowgimmer.specs.Told.{DistanceTold, NearestTold, SeededTold, MlTold, PreparedTold, ListTold, RatioTold, RoundTold, PlaneTold, ChangeTold, EntryTold, NamedTold, PickUpTold, TurnTold};
 
 mod entries;
 mod integers;
@@ -35,6 +35,7 @@ use report::verdict_report;
 use rounding::round_away;
 use seeded::nearest_ml;
 use seeded::nearest_seeded;
+use turns::turn;
 
 // The nearest integer, halves away from zero; beyond i64 its nearest end, and 0 of a NaN.
 #[no_mangle]
@@ -191,6 +192,36 @@ pub extern "C" fn snowgimmer_pick_up(
     ensures { λ r. ⌜ PickUpTold (block (atEntry reals) (atEntry integers) (atEntry counts)) name (atEntry out) budget (toldAt r first second real) (atExit out) (block (atExit reals) (atExit integers) (atExit counts)) ⌝ }
 {
     let answer = pick_up(reals, integers, counts, name, out, budget);
+    stored(nearest_report(answer), first, second, real)
+}
+
+// A turn of the kept searches: the next held name after last, which becomes that name, is picked up with a slice of nodes,
+// from 1 to 2^20. Before the first turn last is 0. name is the name served and n the n of its search, 0 and 0 if a check
+// refuses the turn; the rest is told as by snowgimmer_pick_up, and a point goes to the first n places of out, which has 23.
+// A search whose nodes and the slice together are above 2^60 is told by 15 as it stands, and its name is emptied.
+//
+// Refused: 28, 6 of the block's slices, 29, 6 of out, 15 and 16, in this order. Of these 15 and 16 alone change block and
+// last.
+#[no_mangle]
+pub extern "C" fn snowgimmer_turn(
+    reals: &mut [f64],
+    integers: &mut [i64],
+    counts: &mut [u64],
+    last: &mut u64,
+    out: &mut [i64],
+    slice: u64,
+    name: &mut u64,
+    n: &mut u64,
+    first: &mut u64,
+    second: &mut u64,
+    real: &mut f64,
+) -> u32
+    ensures { λ r. ⌜ TurnTold (block (atEntry reals) (atEntry integers) (atEntry counts)) (atEntry last) (atEntry out) slice (atExit name) (atExit n) (toldAt r first second real) (atExit out) (block (atExit reals) (atExit integers) (atExit counts)) (atExit last) ⌝ }
+{
+    let told = turn(reals, integers, counts, last, out, slice);
+    *name = told.name;
+    *n = told.n;
+    let answer = told.answer;
     stored(nearest_report(answer), first, second, real)
 }
 

@@ -56,13 +56,13 @@ block-passing b i =
     (more (length-passes 736 (length (b .integers)) (i .integers-length))
     (more (length-passes 768 (length (b .counts)) (i .counts-length)) none))
 
-block-then : (b : Block) {ns : List ℕ} {vs : List Verdict} → Numbered ns vs → Numbered (6 ∷ 6 ∷ 6 ∷ ns) (blockChecks b ++ vs)
+pub block-then : (b : Block) {ns : List ℕ} {vs : List Verdict} → Numbered ns vs → Numbered (6 ∷ 6 ∷ 6 ∷ ns) (blockChecks b ++ vs)
 block-then b rest = check (length-number 5168 (length (b .reals))) (check (length-number 736 (length (b .integers))) (check (length-number 768 (length (b .counts))) rest))
 
 block-clear : (b : Block) {vs : List Verdict} → All Clear vs → All Clear (blockChecks b ++ vs)
 block-clear b rest = more (length-clear 5168 (length (b .reals))) (more (length-clear 736 (length (b .integers))) (more (length-clear 768 (length (b .counts))) rest))
 
-is-block : (b : Block) → lengthCheck 5168 (length (b .reals)) ≡ pass → lengthCheck 736 (length (b .integers)) ≡ pass → lengthCheck 768 (length (b .counts)) ≡ pass → IsBlock b
+pub is-block : (b : Block) → lengthCheck 5168 (length (b .reals)) ≡ pass → lengthCheck 736 (length (b .integers)) ≡ pass → lengthCheck 768 (length (b .counts)) ≡ pass → IsBlock b
 is-block b p q r = record {
   reals-length = sym (length-passed 5168 (length (b .reals)) p);
   integers-length = sym (length-passed 736 (length (b .integers)) q);

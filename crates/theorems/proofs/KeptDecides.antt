@@ -27,13 +27,13 @@ use Rattle.theorems.proofs.PickUpCalls.{picked-answer}
 use Rattle.lists.specs.All.{none, more}
 
 -- ---- a check that passes, and one that refuses
-on : (v : Verdict) (vs : List Verdict) → v ≡ pass → firstRefusal (v ∷ vs) ≡ firstRefusal vs
+pub on : (v : Verdict) (vs : List Verdict) → v ≡ pass → firstRefusal (v ∷ vs) ≡ firstRefusal vs
 on v vs e = first-cons v vs ∙ ap (λ (w : Verdict). orElse w (firstRefusal vs)) e
 
-stop : (v : Verdict) (vs : List Verdict) (e : Refusal) → v ≡ refuse e → firstRefusal (v ∷ vs) ≡ refuse e
+pub stop : (v : Verdict) (vs : List Verdict) (e : Refusal) → v ≡ refuse e → firstRefusal (v ∷ vs) ≡ refuse e
 stop v vs e q = first-cons v vs ∙ ap (λ (w : Verdict). orElse w (firstRefusal vs)) q
 
-length-refuses : (expected found : ℕ) → (found ≡ expected → ⊥) → lengthCheck expected found ≡ refuse (lengthMismatch expected found)
+pub length-refuses : (expected found : ℕ) → (found ≡ expected → ⊥) → lengthCheck expected found ≡ refuse (lengthMismatch expected found)
 length-refuses expected found d = ap (λ (b : Bool). refuseIf (not b) (lengthMismatch expected found)) (ne-eqb expected found (λ e. d (sym e)))
 
 name-refuses : (name : ℕ) → (IsName name → ⊥) → nameCheck name ≡ refuse nameRange
@@ -44,10 +44,10 @@ name-refuses name d = go (leb 1 name) (leb name 8) refl refl
     go true false p q = refl
     go false b p q = refl
 
--- ---- any call whose checks begin with these
-module _ (b : Block) (name : ℕ) (vs : List Verdict) (end answer : Answer NearestPoint) (is : answer ≡ after (firstRefusal ((nameCheck name ∷ blockChecks b) ++ vs)) end) where
-  by : (e : Refusal) → firstRefusal ((nameCheck name ∷ blockChecks b) ++ vs) ≡ refuse e → answer ≡ refused e
-  by e q = is ∙ after-refuse (firstRefusal ((nameCheck name ∷ blockChecks b) ++ vs)) end e q
+-- ---- any call whose checks begin with one and those of the block
+module _ (b : Block) (v : Verdict) (vs : List Verdict) (end answer : Answer NearestPoint) (is : answer ≡ after (firstRefusal ((v ∷ blockChecks b) ++ vs)) end) where
+  by : (e : Refusal) → firstRefusal ((v ∷ blockChecks b) ++ vs) ≡ refuse e → answer ≡ refused e
+  by e q = is ∙ after-refuse (firstRefusal ((v ∷ blockChecks b) ++ vs)) end e q
 
   abbrev lengths : List Verdict
   lengths = blockChecks b ++ vs
@@ -55,20 +55,36 @@ module _ (b : Block) (name : ℕ) (vs : List Verdict) (end answer : Answer Neare
   abbrev from-integers : List Verdict
   from-integers = lengthCheck 736 (length (b .integers)) ∷ lengthCheck 768 (length (b .counts)) ∷ vs
 
-  pub name-and-block : NameAndBlock b name answer
-  name-and-block = record {
-    gives-25 = λ d. by nameRange (stop (nameCheck name) lengths nameRange (name-refuses name d));
-    reals-6 = λ i d. by _ (on (nameCheck name) lengths (name-passes name i) ∙ stop (lengthCheck 5168 (length (b .reals))) from-integers _ (length-refuses 5168 (length (b .reals)) d));
-    integers-6 = λ i r d. by _ (on (nameCheck name) lengths (name-passes name i) ∙ on (lengthCheck 5168 (length (b .reals))) from-integers (length-passes 5168 (length (b .reals)) r) ∙ stop (lengthCheck 736 (length (b .integers))) (lengthCheck 768 (length (b .counts)) ∷ vs) _ (length-refuses 736 (length (b .integers)) d));
-    counts-6 = λ i r n d. by _ (on (nameCheck name) lengths (name-passes name i) ∙ on (lengthCheck 5168 (length (b .reals))) from-integers (length-passes 5168 (length (b .reals)) r) ∙ on (lengthCheck 736 (length (b .integers))) (lengthCheck 768 (length (b .counts)) ∷ vs) (length-passes 736 (length (b .integers)) n) ∙ stop (lengthCheck 768 (length (b .counts))) vs _ (length-refuses 768 (length (b .counts)) d));
-  }
+  pub first-decides : (e : Refusal) → v ≡ refuse e → answer ≡ refused e
+  first-decides e q = by e (stop v lengths e q)
 
-  -- name and block are right: the others decide
-  pub others-decide : IsName name → IsBlock b → (e : Refusal) → firstRefusal vs ≡ refuse e → answer ≡ refused e
-  others-decide i k e q =
-      by e (first-append (nameCheck name ∷ blockChecks b) vs
-      ∙ ap (λ (v : Verdict). orElse v (firstRefusal vs)) (none-passes (nameCheck name ∷ blockChecks b) (none-fits (more (name-passes name i) (block-passing b k))))
-      ∙ q)
+  -- it passes: the block's lengths decide
+  module _ (first : v ≡ pass) where
+    pub reals-decide : (length (b .reals) ≡ 5168 → ⊥) → answer ≡ refused (lengthMismatch 5168 (length (b .reals)))
+    reals-decide d = by _ (on v lengths first ∙ stop (lengthCheck 5168 (length (b .reals))) from-integers _ (length-refuses 5168 (length (b .reals)) d))
+
+    pub integers-decide : length (b .reals) ≡ 5168 → (length (b .integers) ≡ 736 → ⊥) → answer ≡ refused (lengthMismatch 736 (length (b .integers)))
+    integers-decide r d = by _ (on v lengths first ∙ on (lengthCheck 5168 (length (b .reals))) from-integers (length-passes 5168 (length (b .reals)) r) ∙ stop (lengthCheck 736 (length (b .integers))) (lengthCheck 768 (length (b .counts)) ∷ vs) _ (length-refuses 736 (length (b .integers)) d))
+
+    pub counts-decide : length (b .reals) ≡ 5168 → length (b .integers) ≡ 736 → (length (b .counts) ≡ 768 → ⊥) → answer ≡ refused (lengthMismatch 768 (length (b .counts)))
+    counts-decide r n d = by _ (on v lengths first ∙ on (lengthCheck 5168 (length (b .reals))) from-integers (length-passes 5168 (length (b .reals)) r) ∙ on (lengthCheck 736 (length (b .integers))) (lengthCheck 768 (length (b .counts)) ∷ vs) (length-passes 736 (length (b .integers)) n) ∙ stop (lengthCheck 768 (length (b .counts))) vs _ (length-refuses 768 (length (b .counts)) d))
+
+    -- the block is right too: the others decide
+    pub others-decide : IsBlock b → (e : Refusal) → firstRefusal vs ≡ refuse e → answer ≡ refused e
+    others-decide k e q =
+        by e (first-append (v ∷ blockChecks b) vs
+        ∙ ap (λ (w : Verdict). orElse w (firstRefusal vs)) (none-passes (v ∷ blockChecks b) (none-fits (more first (block-passing b k))))
+        ∙ q)
+
+-- of a name
+module _ (b : Block) (name : ℕ) (vs : List Verdict) (end answer : Answer NearestPoint) (is : answer ≡ after (firstRefusal ((nameCheck name ∷ blockChecks b) ++ vs)) end) where
+  name-and-block : NameAndBlock b name answer
+  name-and-block = record {
+    gives-25 = λ d. first-decides b (nameCheck name) vs end answer is nameRange (name-refuses name d);
+    reals-6 = λ i. reals-decide b (nameCheck name) vs end answer is (name-passes name i);
+    integers-6 = λ i. integers-decide b (nameCheck name) vs end answer is (name-passes name i);
+    counts-6 = λ i. counts-decide b (nameCheck name) vs end answer is (name-passes name i);
+  }
 
 -- ---- `nearest_named`
 too-large : (t : Table) (target : List Float) (out : List ℤ) (R : Float) (budget : ℕ) → 24 ≤ dimension t → firstRefusal (checksOfNearest largestDimension t target out R budget) ≡ refuse (tableSize (dimension t))
@@ -80,7 +96,7 @@ module _ (b : Block) (name : ℕ) (t : Table) (target : List Float) (out : List 
   named-name-and-block = name-and-block b name (checksOfNearest largestDimension t target out R budget) (answerOf (searchFor t target (handedOn R) budget)) (nearestNamed b name t target out R budget) (named-answer b name t target out R budget)
 
   pub named-gives-2 : IsName name → IsBlock b → 24 ≤ dimension t → nearestNamed b name t target out R budget ≡ refused (tableSize (dimension t))
-  named-gives-2 i k l = others-decide b name (checksOfNearest largestDimension t target out R budget) (answerOf (searchFor t target (handedOn R) budget)) (nearestNamed b name t target out R budget) (named-answer b name t target out R budget) i k (tableSize (dimension t)) (too-large t target out R budget l)
+  named-gives-2 i k l = others-decide b (nameCheck name) (checksOfNearest largestDimension t target out R budget) (answerOf (searchFor t target (handedOn R) budget)) (nearestNamed b name t target out R budget) (named-answer b name t target out R budget) (name-passes name i) k (tableSize (dimension t)) (too-large t target out R budget l)
 
 -- ---- `pick_up`
 module _ (b : Block) (name : ℕ) (out : List ℤ) (budget : ℕ) where
@@ -91,7 +107,7 @@ module _ (b : Block) (name : ℕ) (out : List ℤ) (budget : ℕ) where
   picked-name-and-block = name-and-block b name (rest (slotIn b name)) (furtherAnswer budget (slotIn b name)) (pickUp b name out budget) (picked-answer b name out budget)
 
   decides : IsName name → IsBlock b → (x : Slot) → slotIn b name ≡ x → (e : Refusal) → firstRefusal (rest x) ≡ refuse e → pickUp b name out budget ≡ refused e
-  decides i k x s e q = others-decide b name (rest (slotIn b name)) (furtherAnswer budget (slotIn b name)) (pickUp b name out budget) (picked-answer b name out budget) i k e (ap (λ (y : Slot). firstRefusal (rest y)) s ∙ q)
+  decides i k x s e q = others-decide b (nameCheck name) (rest (slotIn b name)) (furtherAnswer budget (slotIn b name)) (pickUp b name out budget) (picked-answer b name out budget) (name-passes name i) k e (ap (λ (y : Slot). firstRefusal (rest y)) s ∙ q)
 
   pub picked-gives-26 : IsName name → IsBlock b → slotIn b name ≡ free → pickUp b name out budget ≡ refused nameEmpty
   picked-gives-26 i k s = decides i k free s nameEmpty (stop (heldCheck free) _ nameEmpty refl)

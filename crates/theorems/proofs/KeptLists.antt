@@ -30,7 +30,7 @@ pub holds≢free : {h : Held} → holds h ≡ free → ⊥
 holds≢free e = let z : _≡_ {A = ℕ} 0 1 = cc in omega arith
 
 -- ---- what other names' calls leave
-stays-others : (name : ℕ) (b b′ : Block) → b′ ≡ b → OthersStay name b b′
+pub stays-others : (name : ℕ) (b b′ : Block) → b′ ≡ b → OthersStay name b b′
 stays-others name b b′ e other i d = ap (λ (x : Block). partOf x other) e
 
 pub named-leaves : (b : Block) (name : ℕ) (t : Table) (target : List Float) (out : List ℤ) (R : Float) (budget : ℕ) → OthersStay name b (blockAfterNamed b name t target out R budget)
@@ -79,15 +79,15 @@ module _ (b : Block) (name : ℕ) (t : Table) (target : List Float) (R : Float) 
 
 -- ---- calls in a row
 module _ (name : ℕ) (is : IsName name) (t : Table) (target : List Float) (R : Float) where
-  abbrev KeptOrFree : Block → ℕ → Type 0
+  abbrev pub KeptOrFree : Block → ℕ → Type 0
   KeptOrFree b sum = Keeps b name t target R sum ⊎ (slotIn b name ≡ free)
 
-  others-kept : (b b′ : Block) (other sum : ℕ) → (other ≡ name → ⊥) → OthersStay other b b′ → KeptOrFree b sum → KeptOrFree b′ sum
+  pub others-kept : (b b′ : Block) (other sum : ℕ) → (other ≡ name → ⊥) → OthersStay other b b′ → KeptOrFree b sum → KeptOrFree b′ sum
   others-kept b b′ other sum d o (inl k) = inl (keeps-same (o name is (λ e. d (sym e))) k)
   others-kept b b′ other sum d o (inr e) = inr (ap partSlot (o name is (λ e. d (sym e))) ∙ e)
 
   -- after one
-  call-kept : (b : Block) (c : Call) (sum : ℕ) → LeavesOrPicks name b c → KeptOrFree b sum → KeptOrFree (afterCall b c) (sum + budgetFor name c)
+  pub call-kept : (b : Block) (c : Call) (sum : ℕ) → LeavesOrPicks name b c → KeptOrFree b sum → KeptOrFree (afterCall b c) (sum + budgetFor name c)
   call-kept b (named other u v out S budget) sum d x = subst (KeptOrFree (afterCall b (named other u v out S budget))) (more sum) (go (eqb other name) refl)
     where
       more : (sum : ℕ) → sum ≡ sum + 0
@@ -143,7 +143,7 @@ others-sound name b b′ o s other i d =
     (s other i)
 
 -- a name, and the others
-by-name : (name : ℕ) (b b′ : Block) → OthersStay name b b′ → Sound b → (slotIn b′ name ≡ free) ⊎ ((t : Table) × (target : List Float) × (R : Float) × (sum : ℕ) × Keeps b′ name t target R sum) → Sound b′
+pub by-name : (name : ℕ) (b b′ : Block) → OthersStay name b b′ → Sound b → (slotIn b′ name ≡ free) ⊎ ((t : Table) × (target : List Float) × (R : Float) × (sum : ℕ) × Keeps b′ name t target R sum) → Sound b′
 by-name name b b′ o s own other i = go (eqb other name) refl
   where
     go : (c : Bool) → eqb other name ≡ c → (slotIn b′ other ≡ free) ⊎ ((t : Table) × (target : List Float) × (R : Float) × (sum : ℕ) × Keeps b′ other t target R sum)
@@ -159,7 +159,7 @@ named-reached b name t target out R budget r = ⊎-elim (λ e. subst Reached (sy
       sound = by-name name b (blockAfterNamed b name t target out R budget) (named-others b name t target out R budget f g) (r .sound) (inr (t, target, R, budget, named-keeps b name t target out R budget f g));
     }
 
-picked-reached : (b : Block) (name : ℕ) (out : List ℤ) (budget : ℕ) → Reached b → Reached (blockAfterPickUp b name out budget)
+pub picked-reached : (b : Block) (name : ℕ) (out : List ℤ) (budget : ℕ) → Reached b → Reached (blockAfterPickUp b name out budget)
 picked-reached b name out budget r = ⊎-elim (λ some. subst Reached (sym (picked-stays b name out budget (some .0) (first-fits (some .1)))) r) (λ other. by (other .0)) (decision (checksOfPickUp b name out budget))
   where
     b′ : Block
@@ -177,7 +177,7 @@ picked-reached b name out budget r = ⊎-elim (λ some. subst Reached (sym (pick
         own h e (inl q) = absurd (holds≢free (sym e ∙ q))
         own h e (inr (t, target, R, sum, k)) = ⊎-elim (λ x. inr (t, target, R, sum + budget, x)) (λ x. inl x) (kept-or-free b name t target R sum k out budget f)
 
-call-reached : (b : Block) (c : Call) → Reached b → Reached (afterCall b c)
+pub call-reached : (b : Block) (c : Call) → Reached b → Reached (afterCall b c)
 call-reached b (named name t target out R budget) r = named-reached b name t target out R budget r
 call-reached b (picked name out budget) r = picked-reached b name out budget r
 

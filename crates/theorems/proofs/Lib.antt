@@ -76,6 +76,14 @@ pub mod PickUpCalls
 pub mod KeptDecides
 pub mod KeptLists
 pub mod KeptPromises
+-- ---- turns
+pub mod Rounds
+pub mod TurnChecks
+pub mod TurnCalls
+pub mod FairTurns
+pub mod TurnOutputs
+pub mod TurnRows
+pub mod TurnPromises
 -- ---- entries that are not read
 pub mod SameDistances
 pub mod SameWalks

@@ -1,9 +1,9 @@
 -- `pick_up`: its answer, and what it leaves of the block, whoever wrote that. Assumes nothing.
 use mathlib.Core.Path.{_≡_, refl, sym, ap, _∙_, subst}
 use mathlib.Core.Bool.{Bool, true, false, cond}
-use mathlib.Core.List.{List}
+use mathlib.Core.List.{List, []}
 use mathlib.Core.Logic.{inl, inr, ⊎-elim}
-use Prim.Native.Nat.{ℕ, _+_, _≤_}
+use Prim.Native.Nat.{ℕ, zero, suc, _+_, _≤_}
 use native.Mathlib.Omega.{arith}
 use lib.IntN.{ℤ}
 use Rattle.definitions.specs.Table.{largestBudget}
@@ -12,14 +12,15 @@ use Rattle.definitions.specs.Refusals.{Refusal, budgetExhausted}
 use Rattle.definitions.specs.Checks.{Verdict, firstRefusal}
 use Rattle.definitions.specs.Calls.{Answer, refused, after, NearestPoint, nearestOutput}
 use Rattle.definitions.specs.Kept.{Held, Slot, free, holds, further, answerOf, ifOver, slotFor}
-use Rattle.definitions.specs.Block.{Block, isSound, partTable, partMachine, partHeld, partSlot, zeroPart, rewritten, partOf, slotIn, withPart}
+use Rattle.definitions.specs.Block.{Block, partOpen, isSound, partTable, partFrames, partMachine, partHeld, partSlot, zeroPart, rewritten, partOf, slotIn, withPart}
 use Rattle.definitions.specs.Named.{ifPassed, checksOfPickUp, furtherAnswer, furtherSlot, pickUp, blockAfterPickUp}
 use Rattle.definitions.proofs.Answers.{after-pass}
+use Rattle.definitions.proofs.Block.{frames-more, sound-counts}
 use Rattle.definitions.proofs.Named.{pick-up-checks-are, pick-up-is, after-pick-up-is}
 use Rattle.theorems.specs.Refusals.{Fits, NoneFits}
 use Rattle.theorems.specs.Answers.{Under, Demand1}
 use Rattle.theorems.specs.Running.{Exhausted, Ended}
-use Rattle.theorems.specs.Kept.{IsBlock, OthersStay, PickUpAccepted}
+use Rattle.theorems.specs.Kept.{IsName, IsBlock, OthersStay, PickUpAccepted}
 use Rattle.theorems.proofs.FirstRefusal.{decision, none-passes, fitting-refuses, numbers-apart}
 use Rattle.theorems.proofs.RefusedCalls.{demand-apart, output-unchanged, nearest-own-numbers}
 use Rattle.theorems.proofs.KeptWalks.{WalkFits, run-fits}
@@ -31,12 +32,30 @@ use Rattle.theorems.proofs.KeptSearches.{Going, over-or-going, if-going
 use Rattle.theorems.proofs.KeptChecks.{pick-up-numbered, pick-up-accepts}
 
 -- a part that holds a search is sound, and it is the search that its numbers say
-slot-holds : (p : Block) (h : Held) → partSlot p ≡ holds h → (isSound (p .counts) ≡ true) × (partHeld p ≡ h)
+pub slot-holds : (p : Block) (h : Held) → partSlot p ≡ holds h → (isSound (p .counts) ≡ true) × (partHeld p ≡ h)
 slot-holds p h e = go (isSound (p .counts)) refl e
   where
     go : (c : Bool) → isSound (p .counts) ≡ c → cond c (holds (partHeld p)) free ≡ holds h → (isSound (p .counts) ≡ true) × (partHeld p ≡ h)
     go true c q = (c, cc)
     go false c q = let z : _≡_ {A = ℕ} 0 1 = cc in absurd (omega arith)
+
+-- what a name holds has a sound part
+pub slot-sound : (b : Block) (name : ℕ) → IsName name → IsBlock b → (h : Held) → slotIn b name ≡ holds h → SoundPart (partOf b name)
+slot-sound b name i k h held = let l = part-lengths b name i k in record { reals-length = l .reals-length; integers-length = l .integers-length; sound = slot-holds (partOf b name) h held .0 }
+
+-- and is not over
+pub held-going : (p : Block) (h : Held) → partSlot p ≡ holds h → Going h
+held-going p h e =
+    let q = slot-holds p h e in
+    subst Going (q .1) (opens (partOpen (p .counts)) (sound-counts (p .counts) (q .0) .some))
+  where
+    opens : (k : ℕ) → 1 ≤ k → partFrames p 0 k ≡ [] → ⊥
+    opens zero l r = omega arith
+    opens (suc k) l r = let q = sym (frames-more p 0 k) ∙ r in let z : _≡_ {A = ℕ} 0 1 = cc in omega arith
+
+-- and counts at most 2^60 nodes
+pub held-few : (p : Block) (h : Held) → partSlot p ≡ holds h → h .walk .nodes ≤ largestBudget
+held-few p h e = let q = slot-holds p h e in subst (λ (x : Held). x .walk .nodes ≤ largestBudget) (q .1) (sound-counts (p .counts) (q .0) .few-nodes)
 
 module _ (b : Block) (name : ℕ) (out : List ℤ) (budget : ℕ) where
   abbrev asked : List Verdict
@@ -84,12 +103,12 @@ module _ (b : Block) (name : ℕ) (out : List ℤ) (budget : ℕ) where
     p = partOf b name
 
     sound : SoundPart p
-    sound = let l = part-lengths b name (ok .is-name) (ok .is-block) in record { reals-length = l .reals-length; integers-length = l .integers-length; sound = slot-holds p h held .0 }
+    sound = slot-sound b name (ok .is-name) (ok .is-block) h held
 
     same : partHeld p ≡ h
     same = slot-holds p h held .1
 
-    block-is : left ≡ withPart b name (rewritten p (slotFor (further h budget)))
+    pub block-is : left ≡ withPart b name (rewritten p (slotFor (further h budget)))
     block-is =
         after-pick-up-is b name out budget
         ∙ ap (λ (v : Verdict). ifPassed v b (withPart b name (rewritten p (furtherSlot budget (slotIn b name))))) (pick-up-checks-are b name out budget ∙ none-passes asked f)

@@ -12,6 +12,7 @@ pub mod Accepted
 pub mod Promises
 pub mod Prepared
 pub mod Kept
+pub mod Turns
 pub mod Settings
 pub mod Ratios
 pub mod Reference

@@ -39,6 +39,9 @@ unsafe extern "C" {
     fn snowgimmer_pick_up(reals: *mut f64, reals_len: usize, integers: *mut i64, integers_len: usize,
         counts: *mut u64, counts_len: usize, name: u64, out: *mut i64, out_len: usize, budget: u64,
         first: *mut u64, second: *mut u64, real: *mut f64) -> u32;
+    fn snowgimmer_turn(reals: *mut f64, reals_len: usize, integers: *mut i64, integers_len: usize,
+        counts: *mut u64, counts_len: usize, last: *mut u64, out: *mut i64, out_len: usize, slice: u64,
+        name: *mut u64, n: *mut u64, first: *mut u64, second: *mut u64, real: *mut f64) -> u32;
 }
 
 /// Cells on each side of a slice that nobody may write.
@@ -304,4 +307,33 @@ pub fn pick_up(block: &mut Block, name: u64, out: &mut [i64], budget: u64) -> Re
             &raw mut first, &raw mut second, (&raw mut real).cast())
     };
     Report { number, first, second, real }
+}
+
+/// What a turn tells: the name that it served, the n of its search, and the answer.
+#[derive(Clone, Copy, PartialEq, Eq, Debug)]
+pub struct Turn {
+    pub name: u64,
+    pub n: u64,
+    pub report: Report,
+}
+
+/// # Panics
+///
+/// If a cell beside `last` or beside what is told was changed.
+pub fn turn(block: &mut Block, last: &mut u64, out: &mut [i64], slice: u64) -> Turn {
+    let [(x, xn), (z, zn), (c, cn)] = block.lent();
+    // Every other cell is lent, and those between nobody may write.
+    let mut cells: [u64; 13] = std::array::from_fn(double_pattern);
+    cells[1] = *last;
+    let [_, l, _, name, _, n, _, first, _, second, _, real, _] = cells.each_mut().map(|cell| &raw mut *cell);
+    // SAFETY: as above.
+    #[rustfmt::skip]
+    let number = unsafe {
+        snowgimmer_turn(x.cast(), xn, z.cast(), zn, c, cn, l, out.as_mut_ptr(), out.len(), slice,
+            name, n, first, second, real.cast())
+    };
+    assert!((0..13).step_by(2).all(|k| cells[k] == double_pattern(k)), "a cell beside a told number was changed");
+    let [_, l, _, name, _, n, _, first, _, second, _, real, _] = cells;
+    *last = l;
+    Turn { name, n, report: Report { number, first, second, real } }
 }

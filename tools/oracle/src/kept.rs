@@ -24,6 +24,18 @@ pub fn part(name: u64) -> [Range<usize>; 3] {
     [REALS, INTEGERS, COUNTS].map(|size| before * size..(before + 1) * size)
 }
 
+/// The soundness test, by the counts of a part.
+#[must_use]
+pub fn is_sound(counts: &[u64]) -> bool {
+    let (n, nodes, open) = (counts[0], counts[1], counts[3]);
+    if n > LEVELS as u64 || nodes > MOST_NODES || open < 1 || open > n {
+        return false;
+    }
+    let levels = &counts[4..4 + open as usize];
+    let rise = levels.windows(2).all(|two| two[0] < two[1]) && levels.iter().all(|level| *level < n);
+    rise && counts[27..27 + open as usize].iter().all(|step| *step <= 2 * nodes + 1)
+}
+
 /// An open level: the child that waits, and the generator after it.
 #[derive(Clone, Debug)]
 struct Open {
@@ -96,16 +108,10 @@ impl Held {
     /// What a part holds: nothing, if it fails the soundness test.
     #[must_use]
     pub fn read(reals: &[f64], integers: &[i64], counts: &[u64]) -> Option<Self> {
-        let (nodes, open) = (counts[1], counts[3]);
-        if counts[0] > LEVELS as u64 || nodes > MOST_NODES || open < 1 || open > counts[0] {
+        if !is_sound(counts) {
             return None;
         }
-        let (n, open) = (counts[0] as usize, open as usize);
-        let levels = &counts[4..4 + open];
-        let rise = levels.windows(2).all(|two| two[0] < two[1]) && levels.iter().all(|level| *level < counts[0]);
-        if !rise || counts[27..27 + open].iter().any(|step| *step > 2 * nodes + 1) {
-            return None;
-        }
+        let (n, nodes, open) = (counts[0] as usize, counts[1], counts[3] as usize);
         let read = |i: usize| Open {
             level: counts[4 + i] as usize,
             partial: reals[577 + i],

@@ -12,6 +12,7 @@ include!(concat!(env!("OUT_DIR"), "/root.rs"));
 mod job;
 pub mod kept;
 mod lines;
+pub mod turns;
 pub use job::{Job, job, job_text};
 pub use lines::answer;
 

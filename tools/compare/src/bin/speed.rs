@@ -2,7 +2,7 @@
 //!
 //! `speed SIDE N PASSES` calls one side alone, `rust` or `port`, so often on the first input of `nearest_ml` at n = N, from
 //! n = 24 on of `nearest`, and prints the nodes: for a program that counts instructions, by the difference of two runs.
-//! `speed running` prints the rows from n = 24 on alone, `speed kept` those of a search that is put down.
+//! `speed running` prints the rows from n = 24 on alone, `speed kept` those of searches that are put down.
 
 use compare::case::{Call, Case};
 use compare::matrices::Pair;
@@ -289,30 +289,29 @@ fn time_lists(mut inputs: Vec<Input>, places: usize) {
     print(&format!("list, n = {n}, µs a call"), inputs.len(), &size, calls as f64 * 1e3, times);
 }
 
-// ---- nearest_named and pick_up
+// ---- nearest_named, pick_up and turn
 
 /// The budget of a slice.
 const SLICE: u64 = 100_000;
 
-/// A search of about ten million nodes: the radius is the first of rising ones whose walk has so many.
-fn long_search(n: usize) -> Input {
-    let mut input = input(Call::Nearest, n, 0);
+/// A search of about so many nodes: the radius is the first of rising ones whose walk has as many.
+fn long_search(n: usize, number: u64, nodes: u64) -> Input {
+    let mut input = input(Call::Nearest, n, number);
     let scratch = &mut EnumerationScratch::new();
     let mut out = vec![0; n];
     input.case.target = vec![0.5; n];
     input.case.radius = input.case.weights.iter().sum::<f64>() / 16.0;
-    while input.table.nearest(&input.case.target, &mut out, input.case.radius, AMPLE, scratch).unwrap_or(0) < 10_000_000
-    {
+    while input.table.nearest(&input.case.target, &mut out, input.case.radius, AMPLE, scratch).unwrap_or(0) < nodes {
         input.case.radius *= 1.05;
     }
     input
 }
 
 /// The whole search under a name, in slices of a budget; its nodes.
-fn in_slices(case: &Case, block: &mut port::Block, out: &mut [i64], slice: u64) -> u64 {
-    let mut report = port::nearest_named(block, 1, &Case { budget: slice, ..case.clone() }, out);
+fn in_slices(case: &Case, name: u64, block: &mut port::Block, out: &mut [i64], slice: u64) -> u64 {
+    let mut report = port::nearest_named(block, name, &Case { budget: slice, ..case.clone() }, out);
     while report.number == 15 {
-        report = port::pick_up(block, 1, out, slice);
+        report = port::pick_up(block, name, out, slice);
     }
     assert_eq!(report.number, 0, "the search ends with its point");
     report.first
@@ -320,36 +319,94 @@ fn in_slices(case: &Case, block: &mut port::Block, out: &mut [i64], slice: u64) 
 
 /// One search by `nearest`, by one named call, and by a named call and pickups.
 fn time_kept(n: usize) {
-    let Input { case, .. } = long_search(n);
+    let Input { case, .. } = long_search(n, 0, 10_000_000);
     let mut out = [vec![0; n], vec![0; n], vec![0; n]];
     let [a, b, c] = &mut out;
     let (mut block, mut other) = (port::Block::empty(), port::Block::empty());
     let nodes = port::nearest(&case, a).first;
     let mut plain = || port::nearest(&case, a).first;
-    let mut named = || in_slices(&case, &mut block, b, AMPLE);
+    let mut named = || in_slices(&case, 1, &mut block, b, AMPLE);
     let [whole, once] = in_turns(nodes, [&mut plain, &mut named]);
-    let mut sliced = || in_slices(&case, &mut other, c, SLICE);
+    let mut sliced = || in_slices(&case, 1, &mut other, c, SLICE);
     let [again, slices] = in_turns(nodes, [&mut plain, &mut sliced]);
     assert!(out[0] == out[1] && out[0] == out[2], "the points differ");
-    let per = nodes as f64;
-    let row = |name: &str, side: &Times, beside: &Times| {
-        let (best, median) = (side.best / beside.best, side.median / beside.median);
-        println!(
-            "| {name} | {nodes} nodes | {:.2} | {:.2} | {best:.2} | {:.2} | {:.2} | {median:.2} |",
-            beside.best / per,
-            side.best / per,
-            beside.median / per,
-            side.median / per
-        );
+    let size = format!("{nodes} nodes");
+    print_beside(&format!("nearest_named, n = {n}, ns a node"), &size, nodes as f64, &once, &whole);
+    print_beside(&format!("the same in slices of {SLICE}"), &size, nodes as f64, &slices, &again);
+}
+
+fn print_beside(name: &str, size: &str, per: f64, side: &Times, beside: &Times) {
+    let (best, median) = (side.best / beside.best, side.median / beside.median);
+    println!(
+        "| {name} | {size} | {:.2} | {:.2} | {best:.2} | {:.2} | {:.2} | {median:.2} |",
+        beside.best / per,
+        side.best / per,
+        beside.median / per,
+        side.median / per
+    );
+}
+
+/// Searches under the names from 1 on, a slice each and then in turns until no name is held; their nodes.
+fn by_turns(cases: &[Case], block: &mut port::Block, out: &mut [i64]) -> u64 {
+    let (mut last, mut nodes) = (0, 0);
+    begin(cases, block);
+    loop {
+        let report = port::turn(block, &mut last, out, SLICE).report;
+        match report.number {
+            0 => nodes += report.first,
+            15 => {}
+            29 => return nodes,
+            _ => unreachable!("the searches end with their points"),
+        }
+    }
+}
+
+/// Keeps the searches under the names from 1 on, a slice each.
+fn begin(cases: &[Case], block: &mut port::Block) {
+    for (case, name) in cases.iter().zip(1..) {
+        let report =
+            port::nearest_named(block, name, &Case { budget: SLICE, ..case.clone() }, &mut vec![0; case.places]);
+        assert_eq!(report.number, 15, "the search is not over");
+    }
+}
+
+/// Turns of one node, as many as there are in a pass.
+const ONES: u64 = 8_000;
+
+/// Eight searches in turns beside the same ones by pickups, one after another; and turns of one node beside such pickups.
+fn time_turns(n: usize) {
+    let cases: Vec<Case> = (0..8).map(|number| long_search(n, number, 2_000_000).case).collect();
+    let (mut block, mut other) = (port::Block::empty(), port::Block::empty());
+    let (mut out, mut places) = (vec![0; n], vec![0; paper::LARGEST_N]);
+    let mut after = || (1..).zip(&cases).map(|(name, case)| in_slices(case, name, &mut block, &mut out, SLICE)).sum();
+    let nodes = after();
+    let mut turns = || by_turns(&cases, &mut other, &mut places);
+    let [pickups, turns] = in_turns(nodes, [&mut after, &mut turns]);
+    let name = format!("8 searches, n = {n}, slices of {SLICE}, ns a node");
+    print_beside(&name, &format!("{nodes} nodes"), nodes as f64, &turns, &pickups);
+
+    begin(&cases, &mut block);
+    let start = block;
+    let mut pickups = || {
+        let mut block = start.clone();
+        (0..ONES).map(|k| u64::from(port::pick_up(&mut block, k % 8 + 1, &mut out, 1).number)).sum()
     };
-    row(&format!("nearest_named, n = {n}, ns a node"), &once, &whole);
-    row(&format!("the same in slices of {SLICE}"), &slices, &again);
+    let mut turns = || {
+        let (mut block, mut last) = (start.clone(), 0);
+        (0..ONES).map(|_| u64::from(port::turn(&mut block, &mut last, &mut places, 1).report.number)).sum()
+    };
+    let [pickups, turns] = in_turns(15 * ONES, [&mut pickups, &mut turns]);
+    print_beside("the same, slices of 1, µs a slice", &format!("{ONES} slices"), ONES as f64 * 1e3, &turns, &pickups);
 }
 
 fn kept_rows() {
     println!("| call | size | nearest, best | this, best | ratio | nearest, median | this, median | ratio |");
     println!("|---|---|---:|---:|---:|---:|---:|---:|");
     time_kept(16);
+    println!();
+    println!("| turns | size | pickups, best | turns, best | ratio | pickups, median | turns, median | ratio |");
+    println!("|---|---|---:|---:|---:|---:|---:|---:|");
+    time_turns(16);
 }
 
 // ---- one side alone
