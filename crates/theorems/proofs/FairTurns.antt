@@ -166,13 +166,6 @@ module _ (a : ℕ) (is : IsName a) (slice : ℕ) where
         (later (afterBenchCall s call) (further h budget) (c - budget) j
         (record { is-block = i; slot = e; going = g; needs = needs-rest h c (w .needs) budget (needs-more h c (w .needs) budget g); enough = enough }) leave sum)
 
-    -- its sum grows by what it needs less
-    sum-on : (budget : ℕ) → Going (further h budget) → h .walk .nodes + c + slice - 1 ≤ 2 ^ 60 → further h budget .walk .nodes + (c - budget) + slice - 1 ≤ 2 ^ 60
-    sum-on budget g l = go (h .walk .nodes) (further h budget .walk .nodes) (2 ^ 60) (further-nodes h budget g) (needs-more h c (w .needs) budget g) l
-      where
-        go : (m n most : ℕ) → n ≡ m + budget → budget < c → m + c + slice - 1 ≤ most → n + (c - budget) + slice - 1 ≤ most
-        go m n most e p l = omega arith
-
     -- ---- nearest_named
     module _ (other : ℕ) (t : Table) (target : List Float) (out : List ℤ) (R : Float) (budget : ℕ) where
       named-block : IsBlock (blockAfterNamed b other t target out R budget)
@@ -211,7 +204,8 @@ module _ (a : ℕ) (is : IsName a) (slice : ℕ) where
 
           rest : Going (further h budget) → Sum h c k s (call ∷ cs) → Sum (further h budget) (c - budget) k (afterBenchCall s call) cs
           rest g (by-turns l q) = absurd (q .0 same)
-          rest g (by-anyone l) = by-anyone (sum-on budget g l)
+          -- its sum grows by what it needs less
+          rest g (by-anyone l) = by-anyone (omega (arith, further-nodes h budget g, needs-more h c (w .needs) budget g, l))
           rest g (at-each-turn q) = at-each-turn (q .1)
 
           on : Going (further h budget) → Result h c (bound k (s .last)) s (call ∷ cs)
@@ -274,10 +268,7 @@ module _ (a : ℕ) (is : IsName a) (slice : ℕ) where
             where
               one : (m most : ℕ) → m + suc j * slice ≤ most → m + slice ≤ most
               one m most l = omega arith
-          within (by-anyone q) = one (h .walk .nodes) (2 ^ 60) (needs-some h c (w .needs) (w .going)) q
-            where
-              one : (m most : ℕ) → 1 ≤ c → m + c + slice - 1 ≤ most → m + slice ≤ most
-              one m most p l = omega arith
+          within (by-anyone q) = omega (arith, needs-some h c (w .needs) (w .going), q)
           within (at-each-turn q) = q .0 (turned-name b last out slice f ∙ same) h (w .slot)
 
           lent : List ℤ
@@ -307,7 +298,7 @@ module _ (a : ℕ) (is : IsName a) (slice : ℕ) where
             where
               one : (m n most : ℕ) → n ≡ m + slice → m + suc j * slice ≤ most → n + j * slice ≤ most
               one m n most e l = omega arith
-          rest g (by-anyone q) = by-anyone (sum-on slice g q)
+          rest g (by-anyone q) = by-anyone (omega (arith, further-nodes h slice g, needs-more h c (w .needs) slice g, q))
           rest g (at-each-turn q) = at-each-turn (q .1)
 
           slot-is : Going (further h slice) → slotIn (blockAfterTurn b last out slice) a ≡ holds (further h slice)
