@@ -357,9 +357,10 @@ uint32_t snowgimmer_pick_up(double *reals, size_t reals_len, int64_t *integers, 
     size_t counts_len, uint64_t name, int64_t *out, size_t out_len, uint64_t budget, uint64_t *first,
     uint64_t *second, double *real);
 
-/* A turn of kept searches that share one computer: picks up the next held name after last with a slice of nodes, and
- * makes it the last. After 8 comes 1, and empty names are passed over. Before the first turn last is 0, which stands
- * for 8, as does every number that is no name; so the first turn looks from 1 on.
+/* Goes on with one of the kept searches by a slice of nodes, and by the next call with another: of the names behind
+ * last the first that holds a search is served, and becomes the last. After 8 comes 1, and empty names are passed over.
+ * Before the first turn last is 0, which stands for 8, as does every number that is no name; so the first turn looks
+ * from 1 on.
  *
  * name is the name served, and n the n of its search. The answer, first and real are those of snowgimmer_pick_up with
  * the slice for its budget. A point goes to the first n places of out, and the others stay as they were. out has 23

@@ -436,10 +436,10 @@ class Names:
         return Nearest(tuple(out), nodes, distance)
 
     def turn(self, slice):
-        """A turn of kept searches that share one computer: serves the next held name, and gives a `Turn`.
+        """Goes on with one of the kept searches by a slice of nodes, and by the next call with another; gives a `Turn`.
 
-        The search of the next held name after the one last served by a turn is picked up with a slice of nodes, from 1
-        to 2**20. After 8 comes 1, and empty names are passed over; the first turn looks from 1 on. The name comes with
+        Of the names behind `last_served` the first that holds a search is served, with a slice of 1 to 2**20 nodes.
+        After 8 comes 1, and empty names are passed over; the first turn looks from 1 on. The name comes with
         every outcome: neither BudgetExhausted nor OutsideRadius is raised. They are the `refusal` of what is given.
 
             >>> names, table = Names(), ([1, 1], [[0, 0], [0.5, 0]], [0.25, 0.5])

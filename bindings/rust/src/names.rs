@@ -89,9 +89,9 @@ impl Names {
         Nearest::written(self.dimension(name)?, |out| pick_up(self, name, out, budget))
     }
 
-    /// A turn of kept searches that share one computer: picks up the next held name after the one last served by a
-    /// turn, with a slice of nodes from 1 to 2^20, and gives that name with what came of it. After 8 comes 1, and empty
-    /// names are passed over; the first turn looks from 1 on. The call needs 16 kB of stack.
+    /// Goes on with one of the kept searches by a slice of 1 to 2^20 nodes, and by the next call with another: serves the
+    /// first name behind [`Names::last_served`] that holds a search, and gives that name with what came of it. After 8
+    /// comes 1, and empty names are passed over; the first turn looks from 1 on. The call needs 16 kB of stack.
     ///
     /// ```
     /// use snowgimmer::{Names, Refusal, Table};
