@@ -7,13 +7,13 @@ use lib.ListN.{get_or}
 use lib.Ieee.{Float, nan}
 use Rattle.definitions.specs.Refusals.{mu_non_finite, mu_range}
 use Rattle.definitions.specs.Checks.{Verdict, pass, refuse, first_refusal, refuse_if, refuse_at_first, not_finite, beyond_limit}
-use Rattle.definitions.specs.Entries.{Entry, fed_all, entries_at, entries_verdict}
+use Rattle.definitions.specs.Entries.{Entry, fed, fed_all, entries_at, entries_verdict}
 use Rattle.definitions.proofs.Verdicts.{or_else, first_cons}
 
 pub fed_append : (v : Verdict) (es later : List Entry) → fed_all v (es ++ later) ≡ fed_all (fed_all v es) later
 unfolding fed_all
 fed_append v [] later = refl
-fed_append v (e ∷ es) later = fed_append _ es later
+fed_append v (e ∷ es) later = fed_append (fed v e) es later
 
 -- an entry that is not finite stays
 pub after_nonfinite : (es : List Entry) (k : ℕ) → fed_all (refuse (mu_non_finite k)) es ≡ refuse (mu_non_finite k)

@@ -2,20 +2,20 @@
 use mathlib.Core.Path.{◌≡◌, refl, sym, ap, ◌∙◌}
 use mathlib.Core.Bool.{not, ◌||◌}
 use mathlib.Core.List.{List, [], ◌∷◌, ◌++◌}
-use Prim.Native.Nat.{ℕ, zero, suc, ◌+◌, ◌*◌, ◌≤◌, ◌<◌}
+use Prim.Native.Nat.{ℕ, suc, ◌+◌, ◌*◌, ◌≤◌, ◌<◌}
 use native.Mathlib.Nat.{mul_comm, mul-le-mul_right, add-mul}
 use native.Mathlib.Omega.{arith}
 use borrow.Author.Tests.{eqb-true, ltb-false, eq-eqb, not-false}
 use lib.Dec.{ltb, eqb}
-use lib.ListN.{length, take, drop, length-append, length-drop}
+use lib.ListN.{length, drop, length-drop}
 use lib.Seq.{length-take-le}
 use lib.IntN.{ℤ}
 use lib.Ieee.{Float}
 use Rattle.lists.specs.All.{All, none, more}
 use Rattle.definitions.specs.Table.{Table, dimension, largest_searched, largest_budget, largest_count}
 use Rattle.definitions.specs.Refusals.{Refusal, length_mismatch, epochs_size}
-use Rattle.definitions.specs.Checks.{Verdict, pass, refuse, first_refusal, refuse_if, table_checks, length_check, target_check, radius_check, handed_on, budget_check}
-use Rattle.definitions.specs.Calls.{Answer, found, refused, after, NearestPoint, nearest_within, nearest_output, target_checks, search_checks, nearest_checks, nearest}
+use Rattle.definitions.specs.Checks.{Verdict, pass, refuse, first_refusal, refuse_if, table_checks, length_check, radius_check, handed_on, budget_check}
+use Rattle.definitions.specs.Calls.{found, refused, after, nearest_within, nearest_output, target_checks, search_checks, nearest_checks, nearest}
 use Rattle.definitions.specs.Named.{if_passed}
 use Rattle.definitions.specs.Epochs.{part_at, epochs_size_check, checks_of_epochs, epochs_checks, checks_of_epoch, epoch_answer, answer_at, epoch_answers, epoch_outputs, epochs, epochs_output}
 use Rattle.definitions.proofs.Verdicts.{first_append, first_alone, first_passes, or_else, append_passes}

@@ -1,6 +1,6 @@
 -- Case G put down and picked up: under the name 3 of an empty block, by the calls themselves, proved by evaluation. Assumes nothing.
 use mathlib.Core.Path.{◌≡◌, refl}
-use Prim.Native.Nat.{ℕ, ◌+◌, ◌-◌, ◌^◌}
+use Prim.Native.Nat.{◌+◌, ◌-◌, ◌^◌}
 use mathlib.Core.Bool.{false}
 use mathlib.Core.List.{List, [], ◌∷◌}
 use lib.ListN.{replicate}
@@ -8,7 +8,7 @@ use lib.IntN.{ℤ, pos, negsuc}
 use lib.Ieee.{Float, fin}
 use Rattle.definitions.specs.Table.{Table, plus_zero, one}
 use Rattle.definitions.specs.Refusals.{length_mismatch, budget_exhausted, name_range, name_empty, sum_range}
-use Rattle.definitions.specs.Calls.{Answer, found, refused, NearestPoint}
+use Rattle.definitions.specs.Calls.{found, refused}
 use Rattle.definitions.specs.Block.{Block}
 use Rattle.definitions.specs.Named.{nearest_named, block_after_named, pick_up, block_after_pick_up}
 

@@ -1,5 +1,5 @@
 -- `turn`, a clause each, as equations; and which names are held. Assumes nothing.
-use mathlib.Core.Path.{◌≡◌, refl, sym, ap, ◌∙◌, subst}
+use mathlib.Core.Path.{◌≡◌, refl, sym, ◌∙◌, subst}
 use Prim.Native.Nat.{ℕ, zero, suc, ◌≤◌}
 use native.Mathlib.Omega.{arith}
 use mathlib.Core.Bool.{Bool, true, false, cond}
@@ -8,8 +8,8 @@ use lib.Dec.{ltb}
 use lib.IntN.{ℤ}
 use borrow.Author.Tests.{ltb-true}
 use Rattle.definitions.specs.Checks.{first_refusal}
-use Rattle.definitions.specs.Calls.{Answer, found, refused, after, NearestPoint, written}
-use Rattle.definitions.specs.Kept.{Slot, free, holds}
+use Rattle.definitions.specs.Calls.{found, refused, after, NearestPoint, written}
+use Rattle.definitions.specs.Kept.{free, holds}
 use Rattle.definitions.specs.Refusals.{Refusal}
 use Rattle.definitions.specs.Block.{Block, is_sound, part_slot, part_held, rewritten, part_of, slot_in, with_part}
 use Rattle.definitions.specs.Named.{if_passed}

@@ -5,7 +5,7 @@ use Rattle.definitions.specs.Machine.{run_for, begin, came}
 use Rattle.definitions.specs.Refusals.{name_empty}
 use Rattle.definitions.specs.Checks.{Verdict, pass, refuse, first_refusal, radius_check, handed_on}
 use Rattle.definitions.specs.Calls.{Answer, refused, after, NearestPoint, end_of_nearest, search_checks, checks_of_nearest}
-use Rattle.definitions.specs.Kept.{Held, Slot, free, holds, search_for, further, answer_of, if_over, slot_for, name_check, held_check, output_check, sum_check}
+use Rattle.definitions.specs.Kept.{Slot, free, holds, search_for, further, answer_of, if_over, slot_for, name_check, held_check, output_check, sum_check}
 use Rattle.definitions.specs.Block.{Block, is_sound, part_frames, written_search, rewritten, part_of, slot_in, with_part, block_checks}
 
 -- what it was, if a check refuses; else what it becomes

@@ -1,5 +1,6 @@
 // docs/SPECIFICATION.md as definitions, in specs/, and its limits as constants for the code. A contract that has to do
 // with one of them cites the definition, so a constant that differs from it is refused where it is used.
+#![tactic(auto)]
 
 // The largest n: `largest_dimension`.
 pub const LARGEST_DIMENSION: usize = 23;

@@ -1,4 +1,6 @@
 // Lists that crates share: definitions in specs/, laws in proofs/, and a copy of a slice for each type of element.
+#![tactic(auto)]
+
 ghost use Rattle.std.specs.Prelude.{◌≡◌, ◌≤◌, length, take};
 
 // Copies as many elements of `from` as `to` has.

@@ -132,6 +132,8 @@ value_zero (fin false (suc m) e) c p v =
     let q : 0 < suc m * up e * c = mul-pos (mul-pos (zero-lt-suc m) (up_pos e)) p in
     let z : suc m * up e * c ≡ 0 * down e = v.1 in
     absurd (omega arith)
+value_zero nan c p v = elim v [ ]
+value_zero (inf _) c p v = elim v [ ]
 
 rounds_to_zero : (c : ℕ) → 0 < c → eq (round binary64 false 0 c) nought ≡ true
 rounds_to_zero c p = value_zero (round binary64 false 0 c) c p (round_exact binary64 false 0 c 0 0 p (lit< tt) (lit< tt) (zero-mul (2 ^ 1074) ∙ sym (zero-mul c)))

@@ -25,6 +25,8 @@ value_above : (d : Float) (N C : ℕ) → HasValue d false N C → T (lt (fin tr
 unfolding lt
 value_above (fin true m e) N C v = absurd (subst T v.0 tt)
 value_above (fin false m e) N C v = lt→ltb 0 (1 * 1 * down e + m * up e * 1) (omega (arith, down_pos e))
+value_above nan N C v = elim v [ ]
+value_above (inf _) N C v = elim v [ ]
 
 value_below : (d : Float) (N C : ℕ) → N < 2 ^ 64 * C → HasValue d false N C → T (lt d (fin false 1 (pos 64)))
 unfolding lt
@@ -34,6 +36,8 @@ value_below (fin false m e) N C h v =
     let k : m * up e * C < 2 ^ 64 * down e * C = subst (λ (x : ℕ). x < 2 ^ 64 * down e * C) (sym v.1) (subst (λ (x : ℕ). N * down e < x) (mul_right_comm (2 ^ 64) C (down e)) l) in
     let r : m * up e < 2 ^ 64 * down e = lt_of_mul-lt-mul_right C k in
     lt→ltb (m * up e * 1) (1 * 2 ^ 64 * down e) (omega arith)
+value_below nan N C h v = elim v [ ]
+value_below (inf _) N C h v = elim v [ ]
 
 value_whole : (d : Float) (N C : ℕ) → 0 < C → N < 2 ^ 64 * C → HasValue d false N C → to_unsigned 64 d ≡ N / C
 unfolding to_unsigned
@@ -42,6 +46,8 @@ value_whole (fin false m e) N C p h v =
     let q : m * up e / down e ≡ N / C = div_same (m * up e) (down e) N C (down_pos e) p v.1 in
     let b : N / C < 2 ^ 64 = (div-lt_iff_lt-mul p).1 h in
     ap (λ (x : ℕ). min x (2 ^ 64 - 1)) q ∙ min-eq_left (omega arith)
+value_whole nan N C p h v = elim v [ ]
+value_whole (inf _) N C p h v = elim v [ ]
 
 -- ---- twice a value of the format is exact
 not_past : (k : ℕ) → 2 ^ suc k ≤ 2 ^ 1074 → suc k ≤ 1074

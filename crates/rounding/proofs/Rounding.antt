@@ -2,7 +2,7 @@
 use Rattle.std.proofs.Common.{◌≡◌, ℕ, zero, suc, ◌+◌, ◌-◌, ◌*◌, ◌/◌, ◌%◌, ◌^◌, ◌<◌, ◌≤◌, Bool, true, false, cond, not, T, ltb, leb, ◌⊎◌, sym, refl, ap, ◌∙◌, subst, inl, inr, mul-le-mul_right, arith, le→leb, leb→le, pow_pos}
 use Prim.Native.Nat.{compare}
 use native.Mathlib.Nat.{eq_of_mul-eq-mul_right}
-use lib.Ieee.{Float, nan, inf, fin, Format, prec, low, up, down, size, nearest, odd, units, round, neg, fits, is_nan}
+use lib.Ieee.{Float, nan, inf, fin, Format, prec, low, down, size, nearest, odd, units, round, neg, fits, is_nan}
 use lib.Ieee.Fits.{down_pos, round_is, round-fits}
 use lib.Ieee.Exact.{HasValue, round_exact}
 use lib.Ieee.Order.{round_mono}

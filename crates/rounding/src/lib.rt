@@ -1,5 +1,7 @@
 // Doubles and signed 64-bit integers: rounding from the one to the other, and what Rust's `is_finite`, `abs`, `max`
 // and `total_cmp` give.
+#![tactic(auto)]
+
 ghost use Rattle.std.specs.Prelude.{◌≡◌, ◌^◌, ◌<◌, false, from_bits, to_bits};
 ghost use Rattle.std.specs.Int.Signed.{mag};
 ghost use Rattle.std.specs.Float.{binary64};
