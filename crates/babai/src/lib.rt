@@ -1,4 +1,6 @@
 // Babai's rounding and nearest-plane algorithms: candidates for a search, found without one.
+#![tactic(auto)]
+
 ghost use Rattle.std.specs.Prelude.{◌≡◌, map, length};
 ghost use Rattle.rounding.specs.Integers.{round_away};
 ghost use Rattle.definitions.specs.Table.{largest_dimension};

@@ -7,6 +7,8 @@
 // The expected output was written by this program compiled as Rust, with the text of the Rust's `round_away`, `round`
 // and `nearest_plane` in the place of the crate `babai`, and a `Gso` whose mu(j, i) is mu[j·n+i]. The lines of refusals
 // 2 to 5, which the Rust does not have, are worked out by hand from the specification.
+#![tactic(auto)]
+
 use printing::values::*;
 use printing::{doubles, integers, newline, verdict, word};
 

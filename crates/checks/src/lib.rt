@@ -1,5 +1,7 @@
 // The checks of the library's calls, in each call's order: refusals 2 to 14 and 30. A sequence gives the first refusal
 // of its checks, number and values included, or a pass. It stops early only where a later check can't be made before.
+#![tactic(auto)]
+
 ghost use Rattle.std.specs.Prelude.{◌≡◌, [], ◌∷◌, ◌++◌, ◌≤◌};
 ghost use Rattle.definitions.specs.Table.{largest_dimension};
 ghost use Rattle.definitions.specs.Seeds.{widened};

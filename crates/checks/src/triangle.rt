@@ -13,7 +13,7 @@ use rounding::is_finite;
 
 // What has been seen of the entries so far: the index of the first that is not finite or, where there is none, of the first
 // above 2^52 in magnitude.
-#[derive(Drop)]
+#[derive(Clone, Copy)]
 pub enum Triangle {
     Clean,
     Range(usize),

@@ -1,6 +1,8 @@
 // What the calls' checks say where the specification's order and limits matter. Each line of the output has the
 // verdicts of one sequence at the calls below, in their order: `pass`, or the refusal's number with what it carries in
 // brackets. A double is written as the 16 hexadecimal digits of its bits. The expected output is worked out by hand.
+#![tactic(auto)]
+
 use checks::triangle::{Triangle, feed, triangle_verdict};
 use definitions::{LARGEST_DIMENSION, LARGEST_SQUARE};
 use printing::values::*;

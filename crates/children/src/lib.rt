@@ -1,4 +1,6 @@
 // The integers of a level, in zigzag order from the centre outward.
+#![tactic(auto)]
+
 ghost use Rattle.std.specs.Prelude.{◌≡◌, false, cond, not, ◌&&◌, ◌||◌, ◌+◌, ◌<◌, ◌^◌, ◌%◌, eqb, pos, neg_ℤ, ◌+ℤ◌, ◌-ℤ◌};
 ghost use Rattle.std.specs.Bool.{beq};
 ghost use Rattle.definitions.specs.Zigzag as Z;
@@ -9,7 +11,7 @@ use rounding::{round_away, rounded_away, rounded_away_large, to_double};
 
 // The state of a level's generator: the centre, what remained of the radius on entry and the weight, the integer
 // nearest to the centre, the number of the next step, and what is over already.
-#[derive(Drop)]
+#[derive(Clone, Copy)]
 pub struct Children {
     pub center: f64,
     pub remaining: f64,
@@ -22,7 +24,7 @@ pub struct Children {
 }
 
 // An integer with its double and its term.
-#[derive(Drop)]
+#[derive(Clone, Copy)]
 pub struct Trial {
     pub z: i64,
     pub value: f64,
@@ -30,28 +32,28 @@ pub struct Trial {
 }
 
 // What the making of a generator answers: a level has children, or none.
-#[derive(Drop)]
+#[derive(Clone, Copy)]
 pub enum Level {
     Open(Children),
     Closed,
 }
 
 // A child with the generator after it, or the end.
-#[derive(Drop)]
+#[derive(Clone, Copy)]
 pub enum Child {
     At(Trial, Children),
     End,
 }
 
 // nearest + or - magnitude, where it is an i64.
-#[derive(Drop)]
+#[derive(Clone, Copy)]
 enum Moved {
     In(i64),
     Out,
 }
 
 // A candidate that passes the test, or one that closes its direction.
-#[derive(Drop)]
+#[derive(Clone, Copy)]
 enum Tested {
     Passed(Trial),
     Failed,

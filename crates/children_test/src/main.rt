@@ -2,6 +2,8 @@
 // whether the upward and the downward direction are open. The lines in `stdout` are those of the Rust's `Children`: this
 // program compiled as Rust, with the oracle in the place of the crate `children`
 // (tools/oracle/examples/children_test.rs).
+#![tactic(auto)]
+
 use children::{Child, Children, Level, Trial};
 use printing::values::TOP;
 use printing::{decimal, double, newline, word};

@@ -1,6 +1,8 @@
 // The computed distance of an integer vector from a target. The residuals target[j] - z[j], as doubles, are kept
 // beside the coordinates, so that a centre converts nothing. Every function here is an inner one: its callers have
 // checked the table, the target and the lengths.
+#![tactic(auto)]
+
 ghost use Rattle.std.specs.Prelude.{◌≡◌, ◌+◌};
 ghost use Rattle.std.specs.Float.{binary64};
 ghost use Rattle.std.specs.Float.Ieee.{sub, mul};
@@ -41,7 +43,7 @@ pub fn term(weight: f64, center: f64, z: f64) -> f64
 }
 
 // A vector's computed distance, or the total that overflowed.
-#[derive(Drop)]
+#[derive(Clone, Copy)]
 pub enum Distance {
     Finite(f64),
     Overflow(f64),

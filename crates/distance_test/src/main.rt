@@ -6,6 +6,8 @@
 // The expected output was written by this program compiled as Rust, with the text of the Rust's `center` and
 // `triangular_distance` in the place of the crate `distance`. A line of `center` came from the Rust's `center` at a
 // point of zeros, a line of `term` from the Rust's `triangular_distance` at n = 1.
+#![tactic(auto)]
+
 use distance::Distance;
 use printing::values::*;
 use printing::{double, newline, word};

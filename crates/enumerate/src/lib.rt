@@ -1,4 +1,6 @@
 // The searches: the nearest integer vector to a target in a triangular table's metric.
+#![tactic(auto)]
+
 ghost use Rattle.std.specs.Prelude.{◌≡◌, List, ℤ};
 ghost use Rattle.definitions.specs.Table.{largest_dimension, largest_searched};
 ghost use Rattle.definitions.specs.Shapes.{WalkShaped};
@@ -19,14 +21,14 @@ use refusals::{Refusal, Verdict};
 use search::{RecursiveSearch, run};
 
 // What a nearest search gives beside the point that it writes.
-#[derive(Drop)]
+#[derive(Clone, Copy)]
 pub struct NearestPoint {
     pub nodes: u64,
     pub distance: f64,
 }
 
 // The answer of a nearest search.
-#[derive(Drop)]
+#[derive(Clone, Copy)]
 pub enum NearestAnswer {
     Found(NearestPoint),
     Refused(Refusal),
@@ -34,7 +36,7 @@ pub enum NearestAnswer {
 
 // How a nearest walk ended: with a point, with none, or out of budget; each with the nodes and the radius that stood,
 // which is the distance of a point found.
-#[derive(Drop)]
+#[derive(Clone, Copy)]
 enum Ending {
     Point(u64, f64),
     Nothing(u64, f64),

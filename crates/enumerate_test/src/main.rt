@@ -7,6 +7,8 @@
 // The expected output of every call that the Rust knows is the Rust's: this program compiled as Rust, with the oracle
 // in the place of the crate `enumerate` (tools/oracle/examples/enumerate_test.rs). The lines of refusals 2 to 5 and 9,
 // which the Rust does not have, are the specification's.
+#![tactic(auto)]
+
 use enumerate::NearestAnswer;
 use printing::values::*;
 use refusals::Verdict;

@@ -1,6 +1,8 @@
 // Sums of up to 64 products of a signed 64-bit integer with an integer of at most 2^52 in magnitude, without loss and
 // without 128-bit integers; nothing wraps on the way. The magnitudes of the positive products are summed, and those of
 // the negative ones by themselves; the result is the difference of the two sums.
+#![tactic(auto)]
+
 ghost use Rattle.std.specs.Prelude.{◌≡◌, ◌+◌, ◌*◌, ◌≤◌, ◌<◌, ◌^◌, leb, pos, nat_abs, ◌-ℤ◌, length};
 ghost use Rattle.std.specs.Bool.{beq};
 ghost use Rattle.std.specs.Int.Signed.{non_neg};
@@ -8,7 +10,7 @@ ghost use Rattle.exact.specs.Value.{FitsOneMore, Added, value, Normal, exact_of,
 
 // a + b·2^26 + c·2^32 + d·2^58. A factor is split into two parts so short that 64 products of parts fit into a u64:
 // nothing is carried until the sum is whole. 2^26 = 67108864, 2^32 = 4294967296, 2^58 = 288230376151711744.
-#[derive(Drop)]
+#[derive(Clone, Copy)]
 struct Sum {
     a: u64,
     b: u64,
@@ -17,21 +19,21 @@ struct Sum {
 }
 
 // hi·2^58 + lo, with lo below 2^58.
-#[derive(Drop)]
+#[derive(Clone, Copy)]
 struct Wide {
     hi: u64,
     lo: u64,
 }
 
 // The sum of the positive products, and that of the negative ones' magnitudes.
-#[derive(Drop)]
+#[derive(Clone, Copy)]
 struct Signed {
     positive: Sum,
     negative: Sum,
 }
 
 // A result that is an i64, or one that is none.
-#[derive(Drop)]
+#[derive(Clone, Copy)]
 pub enum Exact {
     Inside(i64),
     Outside,

@@ -1,4 +1,6 @@
 // A job's bytes to the text that the job program prints.
+#![tactic(auto)]
+
 ghost use Rattle.std.specs.Prelude.{◌≡◌, ◌+◌, ◌*◌, ◌≤◌, length, take};
 ghost use Rattle.definitions.specs.Table.{largest_dimension};
 ghost use Rattle.definitions.specs.Lent.{at_entry, at_exit};
@@ -45,7 +47,7 @@ const RATIO_SIZE: usize = 12;
 pub const OUTPUT_SIZE: usize = NEAREST_SIZE + LIST_SIZE + RATIO_SIZE;
 
 // How a job was answered: with so many bytes, or, where the output is too short for them, with their number alone.
-#[derive(Drop)]
+#[derive(Clone, Copy)]
 pub enum Printed {
     Bytes(usize),
     TooShort(usize),

@@ -1,4 +1,6 @@
 // The job program over an open file.
+#![tactic(auto)]
+
 use job_answer::{OUTPUT_SIZE, Printed, answer_input};
 
 // Reads a job from an open file and writes its text to standard output. Of a longer file only the first bytes are read,

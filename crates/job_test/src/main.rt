@@ -1,4 +1,5 @@
 // Prints, for each job file that is named in the arguments, its name and the text of its job.
+#![tactic(auto)]
 
 // Prints a file's name and the text of its job.
 fn print_file(name: &[u8]) {

@@ -1,5 +1,7 @@
 // Searches that are kept under the names 1 to 8, in a block of memory of the caller's: a nearest search that is put down
 // when its budget runs out, and its pickup.
+#![tactic(auto)]
+
 ghost use Rattle.std.specs.Prelude.{◌≡◌, ◌∷◌};
 ghost use Rattle.definitions.specs.Checks.{first_refusal};
 ghost use Rattle.definitions.specs.Kept.{name_check};

@@ -6,6 +6,8 @@
 // The answer to every search that a named call began is the Rust's, with the sum of the budgets: this program compiled as
 // Rust, with the oracle in the place of the crate `kept` (tools/oracle/examples/kept_test.rs). The lines of refusals 2 to 5,
 // 9 and 25 to 27, of 6 for the block, of what a block holds and of parts that no call has written are the specification's.
+#![tactic(auto)]
+
 use enumerate::NearestAnswer;
 use printing::values::*;
 use refusals::{Refusal, Verdict};

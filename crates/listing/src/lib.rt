@@ -1,4 +1,6 @@
 // The list of the integer vectors within a radius.
+#![tactic(auto)]
+
 ghost use Rattle.std.specs.Prelude.{length};
 ghost use Rattle.definitions.specs.Table.{table, largest_list};
 ghost use Rattle.definitions.specs.Lent.{at_entry, at_exit, table_at};
@@ -25,21 +27,21 @@ const SHORT_LIST_POINTS: usize = SHORT_LIST * LARGEST_DIMENSION;
 const MIDDLE_LIST_POINTS: usize = LARGEST_LIST * 8;
 
 // What a list gives beside the slices that it writes: the number of nodes, and of points.
-#[derive(Drop)]
+#[derive(Clone, Copy)]
 pub struct ListFound {
     pub nodes: u64,
     pub points: usize,
 }
 
 // The answer of a list.
-#[derive(Drop)]
+#[derive(Clone, Copy)]
 pub enum ListAnswer {
     Found(ListFound),
     Refused(Refusal),
 }
 
 // How a list walk ended: with so many nodes and points, or out of budget with the nodes and the radius.
-#[derive(Drop)]
+#[derive(Clone, Copy)]
 pub enum ListEnding {
     Ended(u64, u64),
     Exhausted(u64, f64),

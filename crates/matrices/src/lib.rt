@@ -1,5 +1,7 @@
 // The two matrices between a table's reduced coordinates and the receiver's: checks 22 and 23, the target in the
 // table's coordinates, and a point in the receiver's.
+#![tactic(auto)]
+
 ghost use Rattle.std.specs.Prelude.{◌≡◌, ◌+◌, ◌≤◌, ◌<◌, pos, length, get_or};
 ghost use Rattle.definitions.specs.Checks.{first_refusal, refuse_at_first, count_from};
 ghost use Rattle.definitions.specs.Refusals.{matrix_range};

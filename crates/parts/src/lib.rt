@@ -1,5 +1,7 @@
 // The part of a name in the block: its soundness test, a walk read from it, a table and a walk written into it, and the
 // part cleared.
+#![tactic(auto)]
+
 ghost use Rattle.std.specs.Prelude.{◌≡◌, cond, ◌++◌, length, take, drop};
 ghost use Rattle.definitions.specs.Block.{counts_of_part, is_sound, written_table};
 ghost use Rattle.definitions.specs.Lent.{at_entry, at_exit, table_at};

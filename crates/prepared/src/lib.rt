@@ -1,4 +1,6 @@
 // The nearest search in the receiver's coordinates: over a table of reduced ones, with the matrices between the two.
+#![tactic(auto)]
+
 ghost use Rattle.std.specs.Prelude.{◌≡◌, length};
 ghost use Rattle.definitions.specs.Table.{largest_dimension};
 ghost use Rattle.definitions.specs.Checks.{first_refusal};

@@ -6,6 +6,8 @@
 // The expected output of every call that the Rust knows is the Rust's: this program compiled as Rust, with the oracle in
 // the place of the crate `prepared` (tools/oracle/examples/prepared_test.rs). The Rust's Range is 24; the lines of
 // refusals 2 to 5, 9, 22 and 23, which the Rust has not, are the specification's.
+#![tactic(auto)]
+
 use enumerate::NearestAnswer;
 use printing::values::*;
 use refusals::Verdict;

@@ -1,5 +1,7 @@
 // Text, numbers, lists and verdicts on standard output, for the test programs. No function tells whether a write
 // failed: what a program wrote is held to its file `stdout`.
+#![tactic(auto)]
+
 pub mod values;
 
 use refusals::{Refusal, Verdict, numbers};

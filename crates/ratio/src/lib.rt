@@ -1,4 +1,6 @@
 // The verdict on a list, whether its first point stands out.
+#![tactic(auto)]
+
 ghost use Rattle.std.specs.Prelude.{◌≡◌, ◌≤◌};
 ghost use Rattle.definitions.specs.Lent.{at_entry};
 ghost use Rattle.definitions.specs.Settings.{largest_factor, FactorsInRange};
@@ -11,7 +13,7 @@ use refusals::{Refusal, Verdict};
 use rounding::is_finite;
 use settings::factors_check;
 
-#[derive(Drop)]
+#[derive(Clone, Copy)]
 pub enum Ratio {
     // q times every other vector's distance is at least p·d1, each product rounded once.
     Holds,
@@ -24,7 +26,7 @@ pub enum Ratio {
 }
 
 // The answer of `ratio_of`.
-#[derive(Drop)]
+#[derive(Clone, Copy)]
 pub enum RatioAnswer {
     Found(Ratio),
     Refused(Refusal),

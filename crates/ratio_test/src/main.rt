@@ -5,6 +5,8 @@
 //
 // The expected output was worked out apart from the code, the products as exact fractions that are rounded once. The
 // original has no such call.
+#![tactic(auto)]
+
 use printing::values::{LARGEST, SMALLEST, infinity, nan};
 use printing::{newline, verdict, word};
 use ratio::settings::settings_check;

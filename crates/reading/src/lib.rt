@@ -1,4 +1,6 @@
 // The numbers and the sections in a job's bytes.
+#![tactic(auto)]
+
 ghost use Rattle.std.specs.Prelude.{◌≡◌, ◌+◌, ◌*◌, ◌^◌, ◌≤◌, ◌<◌, length};
 ghost use Rattle.definitions.specs.Table.{largest_dimension};
 ghost use Rattle.definitions.specs.JobLayout.{items_at, doubles, mu_rows, job};
@@ -11,7 +13,7 @@ use definitions::{DEFAULT_P, DEFAULT_PLACES, DEFAULT_Q, LARGEST_DIMENSION, LARGE
 use rounding::from_bits;
 
 // A section: its number of items and the offset after it, or the value of refusal 1.
-#[derive(Drop)]
+#[derive(Clone, Copy)]
 pub enum Section {
     Items(usize, usize),
     Fault(usize),
@@ -101,7 +103,7 @@ fn triangle(n: usize) -> usize
 }
 
 // A layout: a job's n, or the value of refusal 1.
-#[derive(Drop)]
+#[derive(Clone, Copy)]
 pub enum Layout {
     Whole(usize),
     Fault(usize),
@@ -190,7 +192,7 @@ fn mu_at(input: &[u8], section: usize, n: usize) -> [f64; LARGEST_SQUARE]
 }
 
 // The settings of a job.
-#[derive(Drop)]
+#[derive(Clone, Copy)]
 pub struct Settings {
     pub p: u64,
     pub q: u64,
@@ -217,7 +219,7 @@ fn settings_at(input: &[u8], section: usize) -> Settings
 
 // A job as it was read. If its layout is not whole, `fault` is the value of refusal 1 and the rest says nothing;
 // otherwise the first n weights and targets and the first n·n entries of mu are the job's.
-#[derive(Drop)]
+#[derive(Clone, Copy)]
 pub struct Job {
     pub whole: bool,
     pub fault: usize,

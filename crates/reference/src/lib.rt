@@ -1,4 +1,6 @@
 // A change of the reference satellite: the cycles of a point, counted against one satellite, become cycles against another.
+#![tactic(auto)]
+
 ghost use Rattle.std.specs.Prelude.{◌≡◌, cond, ◌<◌, eqb, length, pos, ◌-ℤ◌};
 ghost use Rattle.rounding.specs.Integers.{is_i64};
 ghost use Rattle.definitions.specs.Checks.{first_refusal};

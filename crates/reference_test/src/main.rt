@@ -3,6 +3,8 @@
 // square brackets. Where a case parts the specification from another reading, its comment names that.
 //
 // The expected output was worked out with unbounded integers. The original has no such call.
+#![tactic(auto)]
+
 use printing::{integers, newline, verdict, word};
 
 fn change(name: &[u8], point: &mut [i64], r: usize) {

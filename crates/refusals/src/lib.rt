@@ -1,10 +1,12 @@
 // The numbered refusals of the library's calls, with what each carries, and the one function that takes them apart. Number 1
 // belongs to the job program. specs/Numbers.antt gives each case's number and values.
+#![tactic(auto)]
+
 ghost use Rattle.std.specs.Prelude.{◌≡◌, true, false};
 ghost use Rattle.refusals.specs.Numbers.{numbered, carried_by, carrying};
 ghost use Rattle.definitions.specs.Table.{plus_zero};
 
-#[derive(Drop)]
+#[derive(Clone, Copy)]
 pub enum Refusal {
     // 2: more weights than the largest dimension, or mu of another length than n·n (the weights' length).
     TableSize(usize),
@@ -66,7 +68,7 @@ pub enum Refusal {
 }
 
 // What a check says.
-#[derive(Drop)]
+#[derive(Clone, Copy)]
 pub enum Verdict {
     Pass,
     Refuse(Refusal),
@@ -74,7 +76,7 @@ pub enum Verdict {
 
 // A refusal as numbers: which it is, its whole numbers in their order and how many they are, and its double and whether it
 // has one. What it does not carry is 0.
-#[derive(Drop)]
+#[derive(Clone, Copy)]
 pub struct Carried {
     pub number: u32,
     pub wholes: u32,

@@ -1,5 +1,7 @@
 // The nearest walk up to dimension 23 as a machine: a walk that can be put down and picked up. It holds its open levels
 // itself, where `search::run` holds them in its calls.
+#![tactic(auto)]
+
 ghost use Rattle.std.specs.Prelude.{◌≡◌, ◌≤◌, ◌<◌};
 ghost use Rattle.definitions.specs.Table.{weight, largest_dimension};
 ghost use Rattle.definitions.specs.Lent.{at_entry, at_exit, table_at};
@@ -18,7 +20,7 @@ use search::before;
 
 // An open level: its number, the partial sum above it, its generator after the child that waits, and that child. Weight
 // and coordinates are not kept: they are the table's and the point's.
-#[derive(Drop)]
+#[derive(Clone, Copy)]
 pub struct OpenLevel {
     pub level: usize,
     pub partial: f64,
@@ -33,7 +35,7 @@ pub struct OpenLevel {
 
 // A walk that is put down: the point under trial, the best so far, the open levels, of which there are `count`, the
 // highest first, the standing radius, the nodes and whether there is a best.
-#[derive(Drop)]
+#[derive(Clone, Copy)]
 pub struct Walk {
     pub point: [i64; LARGEST_DIMENSION],
     pub best: [i64; LARGEST_DIMENSION],

@@ -55,7 +55,7 @@ pub fn to_double(n: i64) -> f64
 }
 
 // An integer with its double.
-#[derive(Drop)]
+#[derive(Clone, Copy)]
 pub struct RoundedAway {
     pub integer: i64,
     pub double: f64,
@@ -206,7 +206,7 @@ pub fn precedes(x: f64, y: f64) -> bool
 }
 
 // The answers of `total_cmp`.
-#[derive(Drop)]
+#[derive(Clone, Copy)]
 pub enum Ordering {
     Less,
     Equal,

@@ -1,6 +1,8 @@
 // What the functions of `rounding` give at ties, at the ends of their domains, and at zeros, infinities and NaN. Each
 // line of the output has the answers of one function to the calls below, in their order. A double is written as the 16
 // hexadecimal digits of its bits.
+#![tactic(auto)]
+
 use printing::values::*;
 use printing::{double, integer, newline, truth, word};
 use rounding::Ordering;

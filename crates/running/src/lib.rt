@@ -1,5 +1,7 @@
 // The walk of nearest and of list with running centres, for n up to 64: each centre is kept from node to node and changed
 // by what one coordinate changed by. The arrays are lent, as a struct of their size is slow to copy.
+#![tactic(auto)]
+
 ghost use Rattle.definitions.specs.Lent.{at_entry, at_exit, table_at};
 ghost use Rattle.running.specs.Call.{call_of, call_at, exit_state, Ready, Returned};
 ghost use Rattle.running.specs.Search.{SearchReady, Searched};
@@ -14,7 +16,7 @@ use leaves::consider;
 use search::push;
 
 // The standing radius and the number of nodes. The point under trial and the best are lent beside it.
-#[derive(Drop)]
+#[derive(Clone, Copy)]
 pub struct Standing {
     pub radius: f64,
     pub nodes: u64,

@@ -1,4 +1,6 @@
 // The recursive walk of nearest and of list. They differ in what a leaf does, which a flag chooses.
+#![tactic(auto)]
+
 ghost use Rattle.std.specs.Prelude.{◌≡◌, ◌≤◌, ◌+◌, take};
 ghost use Rattle.definitions.specs.Table.{weight, largest_dimension};
 ghost use Rattle.definitions.specs.Lent.{at_entry, at_exit, table_at};
@@ -16,7 +18,7 @@ use lists::copy_i64;
 
 // The point under trial, the best so far, the standing radius and the number of nodes. Each call of the walk copies it, so
 // nothing more belongs in it.
-#[derive(Drop)]
+#[derive(Clone, Copy)]
 pub struct RecursiveSearch {
     pub point: [i64; LARGEST_DIMENSION],
     pub best: [i64; LARGEST_DIMENSION],

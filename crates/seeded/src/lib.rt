@@ -1,4 +1,6 @@
 // The nearest searches from a candidate: one that the caller gives, and the nearest-plane point.
+#![tactic(auto)]
+
 ghost use Rattle.std.specs.Prelude.{◌≡◌};
 ghost use Rattle.definitions.specs.Table.{largest_dimension};
 ghost use Rattle.definitions.specs.Shapes.{Shaped, WalkShaped};

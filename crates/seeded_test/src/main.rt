@@ -11,6 +11,8 @@
 //
 // No case gives refusal 16. Unless n is 0, the candidate's distance is strictly below the widened radius; a vector
 // strictly below the radius is admitted, and at n = 0 the empty vector is found.
+#![tactic(auto)]
+
 use enumerate::NearestAnswer;
 use printing::values::*;
 use refusals::Verdict;

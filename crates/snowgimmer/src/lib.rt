@@ -2,6 +2,8 @@
 // handed), and writes its report through first, second and real: what a success tells, or what the refusal carries. A
 // refusal leaves every lent slice as it was, but for the block of kept searches: 15 keeps a search in it, and 16 of a pickup
 // empties a name.
+#![tactic(auto)]
+
 ghost use Rattle.std.specs.Prelude.{◌≡◌};
 ghost use Rattle.rounding.specs.Integers.{round_away};
 ghost use Rattle.definitions.specs.Lent.{at_entry, at_exit, table_at};

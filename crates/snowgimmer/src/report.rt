@@ -16,7 +16,7 @@ use listing::ListAnswer;
 use ratio::{Ratio, RatioAnswer};
 use refusals::{Refusal, Verdict, numbers};
 
-#[derive(Drop)]
+#[derive(Clone, Copy)]
 pub struct Report {
     pub number: u32,
     pub first: u64,

@@ -4,6 +4,8 @@
 //
 // The expected output is worked out by hand from the specification's cases. Tables, targets and slices are such that
 // two parameters of one type which are exchanged show.
+#![tactic(auto)]
+
 use printing::values::*;
 
 fn told(name: &[u8], number: u32, first: u64, second: u64, real: f64) {

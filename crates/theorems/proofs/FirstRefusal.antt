@@ -143,6 +143,7 @@ first_of_number (check {n} {ns} {v} {vs} own more) e f = go (eqb n e.number) ref
     go true q more (inr (passed, later)) = first_after v passed (more later)
     go false q more (inl same) = absurd (omega (arith, eqb-false n e.number q, own e same))
     go false q more (inr (passed, later)) = more later
+first_of_number no_checks e f = elim f [ ]
 
 -- so its index is the first fault, if one check has that number
 pub carries_first : {v : Verdict} {n : ℕ} {Index : ℕ → Type 0} {fault : ℕ → Bool} → AtFirst v n Index fault → {ns : List ℕ} {vs : List Verdict} → Numbered ns vs → numbered_as n ns vs ≡ v ∷ [] → (i : ℕ) → Fits vs (carrying n i) → FirstFault Index fault i

@@ -1,20 +1,16 @@
 -- Every job that bytes are read as has what its two searches and its ratio promise. Assumes nothing.
-use mathlib.Core.Path.{◌≡◌, ◌∙◌}
+use mathlib.Core.Path.{◌≡◌}
 use mathlib.Core.Logic.{inl}
 use mathlib.Core.List.{List}
-use Prim.Native.Nat.{ℕ, ◌≤◌}
+use Prim.Native.Nat.{ℕ}
 use lib.Dec.{T}
 use lib.Ieee.{binary64, fits}
-use Rattle.definitions.specs.Table.{dimension, largest_dimension}
-use Rattle.definitions.specs.Calls.{found, NearestPoint, nearest_output}
+use Rattle.definitions.specs.Calls.{nearest_output}
 use Rattle.definitions.specs.JobLayout.{Job, job, job_of}
 use Rattle.definitions.specs.JobText.{job_nearest}
-use Rattle.definitions.proofs.Answers.{nearest_checks_are}
-use Rattle.definitions.proofs.Passed.{nearest_passed}
 use Rattle.theorems.specs.Doubles.{of_doubles}
 use Rattle.theorems.specs.Promises.{NearestPromises}
 use Rattle.theorems.specs.JobCalls.{job_out, job_distances, job_points, JobPromises}
-use Rattle.theorems.proofs.FirstRefusal.{none_passes}
 use Rattle.theorems.proofs.Promises.{nearest_promises, list_promises}
 use Rattle.theorems.proofs.Ratios.{list_ratio_lem}
 use Rattle.theorems.proofs.JobDoubles.{job_doubles, job_small}

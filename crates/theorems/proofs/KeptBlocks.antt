@@ -1,16 +1,15 @@
 -- A name's part that is overwritten is what was written, the other names' parts stay, and so do the block's lengths. Assumes nothing.
-use mathlib.Core.Path.{◌≡◌, refl, sym, ap, ◌∙◌}
+use mathlib.Core.Path.{◌≡◌, refl, ◌∙◌}
 use mathlib.Core.Logic.{◌⊎◌, inl, inr}
 use mathlib.Core.Bool.{Bool, true, false}
-use mathlib.Core.List.{List}
-use Prim.Native.Nat.{ℕ, suc, ◌+◌, ◌-◌, ◌*◌, ◌≤◌, ◌<◌}
+use Prim.Native.Nat.{ℕ, ◌+◌, ◌-◌, ◌*◌, ◌≤◌, ◌<◌}
 use native.Mathlib.Omega.{arith}
 use lib.Dec.{ltb}
-use lib.ListN.{length, take, drop, length-drop}
+use lib.ListN.{length, drop, length-drop}
 use lib.Seq.{length-take-le}
 use borrow.Author.Tests.{ltb-true, ltb-false}
 use Rattle.lists.proofs.Replaced.{replaced_length, replaced_there, replaced_before, replaced_behind}
-use Rattle.definitions.specs.Block.{Block, replaced, part_of, with_part}
+use Rattle.definitions.specs.Block.{Block, part_of, with_part}
 use Rattle.theorems.specs.Kept.{IsName, IsBlock, OthersStay}
 use Rattle.theorems.proofs.Written.{IsPart}
 

@@ -1,11 +1,10 @@
 -- The checks of `nearest_named` and `pick_up`: their numbers and indices, that they carry no minus zero, and where none of them fits. Assumes nothing.
-use mathlib.Core.Path.{◌≡◌, refl, sym, ap, ◌∙◌, subst}
+use mathlib.Core.Path.{◌≡◌, refl, sym, ap, ◌∙◌}
 use mathlib.Core.Bool.{Bool, true, false, not, ◌&&◌}
 use mathlib.Core.List.{List, [], ◌∷◌, ◌++◌}
-use mathlib.Core.Logic.{◌⊎◌, ◌↔◌, inl, inr}
-use Prim.Native.Nat.{ℕ, ◌+◌, ◌-◌, ◌*◌, ◌^◌, ◌≤◌, ◌<◌, min}
-use native.Mathlib.Omega.{arith}
-use borrow.Author.Tests.{leb-true, ltb-true, ltb-false, le-leb, le-ltb}
+use mathlib.Core.Logic.{◌↔◌}
+use Prim.Native.Nat.{ℕ, ◌+◌, ◌-◌, ◌^◌, ◌≤◌, ◌<◌, min}
+use borrow.Author.Tests.{ltb-true, ltb-false, le-leb, le-ltb}
 use lib.Dec.{leb, ltb}
 use lib.ListN.{length}
 use lib.IntN.{ℤ}
@@ -23,7 +22,6 @@ use Rattle.definitions.proofs.Verdicts.{refuse≢pass}
 use Rattle.definitions.proofs.Passed.{length_passed, budget_passes}
 use Rattle.definitions.proofs.Named.{name_passed as within}
 use Rattle.theorems.specs.Refusals.{NoneFits, HasNumber, Numbered, no_checks, check, FirstIndices}
-use Rattle.theorems.specs.Accepted.{SearchAccepted, RadiusAccepted}
 use Rattle.theorems.specs.Kept.{IsName, IsBlock, NamedAccepted, PickUpAccepted}
 use Rattle.theorems.proofs.FirstFaults.{target_first}
 use Rattle.theorems.proofs.FirstRefusal.{first_indices}

@@ -3,19 +3,18 @@ use mathlib.Core.Path.{◌≡◌, refl, sym, ap, ◌∙◌}
 use mathlib.Core.Bool.{Bool, true, false, not, ◌&&◌, ◌||◌}
 use mathlib.Core.List.{List, [], ◌∷◌, ◌++◌}
 use Prim.Native.Nat.{ℕ, ◌+◌, ◌-◌, ◌*◌, ◌^◌, ◌≤◌, ◌<◌, min}
-use native.Mathlib.Omega.{arith}
-use borrow.Author.Tests.{leb-true, lt-ltb, ne_eqb, eq-eqb}
-use lib.Dec.{leb, ltb, eqb}
+use borrow.Author.Tests.{leb-true, lt-ltb, ne_eqb}
+use lib.Dec.{leb, eqb}
 use lib.ListN.{length}
 use lib.IntN.{ℤ}
 use lib.Ieee.{Float}
 use Rattle.definitions.specs.Table.{Table, dimension, largest_dimension, largest_budget}
 use Rattle.definitions.specs.Refusals.{Refusal, table_size, length_mismatch, name_range, name_empty, sum_range}
-use Rattle.definitions.specs.Checks.{Verdict, pass, refuse, refuse_if, first_refusal, table_size_check, mu_non_finite_check, mu_range_check, weight_range_check, table_checks, length_check, handed_on}
-use Rattle.definitions.specs.Calls.{Answer, refused, after, NearestPoint, target_checks, search_checks, checks_of_nearest}
+use Rattle.definitions.specs.Checks.{Verdict, pass, refuse, refuse_if, first_refusal, table_size_check, table_checks, length_check, handed_on}
+use Rattle.definitions.specs.Calls.{Answer, refused, after, NearestPoint, search_checks, checks_of_nearest}
 use Rattle.definitions.specs.Kept.{Held, Slot, free, holds, search_for, answer_of, name_check, held_check, output_check, sum_check}
 use Rattle.definitions.specs.Block.{Block, slot_in, block_checks}
-use Rattle.definitions.specs.Named.{checks_of_named, nearest_named, checks_of_pick_up, further_answer, pick_up}
+use Rattle.definitions.specs.Named.{nearest_named, further_answer, pick_up}
 use Rattle.definitions.proofs.Verdicts.{or_else, first_append, first_cons}
 use Rattle.definitions.proofs.Answers.{after_refuse}
 use Rattle.theorems.specs.Kept.{IsName, IsBlock, NameAndBlock}
@@ -24,7 +23,7 @@ use Rattle.theorems.proofs.Accepted.{none_fits, length_passes}
 use Rattle.theorems.proofs.KeptChecks.{name_passes, block_passing}
 use Rattle.theorems.proofs.NamedCalls.{named_answer}
 use Rattle.theorems.proofs.PickUpCalls.{picked_answer}
-use Rattle.lists.specs.All.{none, more}
+use Rattle.lists.specs.All.{more}
 
 -- ---- a check that passes, and one that refuses
 pub on : (v : Verdict) (vs : List Verdict) → v ≡ pass → first_refusal (v ∷ vs) ≡ first_refusal vs

@@ -3,23 +3,22 @@ use mathlib.Core.Path.{◌≡◌, refl, sym, ap, ◌∙◌, subst}
 use mathlib.Core.Bool.{Bool, true, false, cond}
 use mathlib.Core.List.{List, [], ◌∷◌}
 use mathlib.Core.Logic.{◌⊎◌, inl, inr, ⊎_elim}
-use Prim.Native.Nat.{ℕ, ◌+◌, ◌-◌, ◌*◌, ◌^◌, ◌≤◌, ◌<◌}
+use Prim.Native.Nat.{ℕ, ◌+◌, ◌-◌, ◌*◌, ◌^◌, ◌≤◌}
 use native.Mathlib.Omega.{arith}
 use borrow.Author.Tests.{eqb-true, eqb-false}
 use lib.Dec.{eqb}
-use lib.ListN.{length, replicate, length-replicate}
+use lib.ListN.{replicate, length-replicate}
 use lib.IntN.{ℤ, pos}
 use lib.Ieee.{Float}
 use Rattle.lists.proofs.Segments.{part_same}
 use Rattle.definitions.specs.Table.{Table, plus_zero}
-use Rattle.definitions.specs.Refusals.{Refusal}
 use Rattle.definitions.specs.Checks.{handed_on}
-use Rattle.definitions.specs.Kept.{Held, Slot, free, holds, search_for, further, answer_of}
+use Rattle.definitions.specs.Kept.{Held, free, holds, search_for, answer_of}
 use Rattle.definitions.specs.Block.{Block, is_sound, part_slot, part_held, part_of, slot_in}
-use Rattle.definitions.specs.Named.{checks_of_named, block_after_named, checks_of_pick_up, pick_up, block_after_pick_up}
-use Rattle.theorems.specs.Refusals.{Fits, NoneFits}
+use Rattle.definitions.specs.Named.{checks_of_named, block_after_named, checks_of_pick_up, block_after_pick_up}
+use Rattle.theorems.specs.Refusals.{NoneFits}
 use Rattle.theorems.specs.Running.{Ended}
-use Rattle.theorems.specs.Kept.{IsName, IsBlock, zero_block, OthersStay, Keeps, PickUpAccepted, Call, named, picked, after_call, after_calls, LeavesOrPicks, AllLeaveOrPick, budget_for, budgets_for, Sound, Reached}
+use Rattle.theorems.specs.Kept.{IsName, zero_block, OthersStay, Keeps, PickUpAccepted, Call, named, picked, after_call, after_calls, LeavesOrPicks, AllLeaveOrPick, budget_for, budgets_for, Sound, Reached}
 use Rattle.theorems.proofs.FirstRefusal.{decision, first_fits}
 use Rattle.theorems.proofs.KeptSearches.{Going, over_or_going, exhausts, ends, search_further, search_nodes}
 use Rattle.theorems.proofs.KeptChecks.{pick_up_accepts}

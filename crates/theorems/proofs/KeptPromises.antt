@@ -1,5 +1,5 @@
 -- `nearest_named` and `pick_up` keep their promises: the records of `specs/Kept.antt`. Assumes nothing.
-use mathlib.Core.Path.{◌≡◌, refl, sym, ap, ◌∙◌, subst}
+use mathlib.Core.Path.{◌≡◌, sym, ap, ◌∙◌, subst}
 use mathlib.Core.List.Memᴰ
 use mathlib.Core.List.{List, [], ◌∷◌}
 use mathlib.Core.Logic.{inl, inr, ⊎_elim}
@@ -11,29 +11,28 @@ use lib.IntN.{ℤ}
 use lib.Ieee.{Float, binary64, fits}
 use native.Mathlib.Nat.{le_trans}
 use Rattle.definitions.specs.Table.{Table, dimension}
-use Rattle.definitions.specs.Nearest.{nearest_walk}
 use Rattle.definitions.specs.Refusals.{Refusal, whole, budget_exhausted}
 use Rattle.definitions.specs.Checks.{Verdict, first_refusal, handed_on}
-use Rattle.definitions.specs.Calls.{Answer, found, refused, NearestPoint, end_of_nearest, nearest, nearest_output}
-use Rattle.definitions.specs.Kept.{Held, free, holds, search_for, further, answer_of, sum_check}
-use Rattle.definitions.specs.Block.{Block, zero_part, part_of, slot_in}
+use Rattle.definitions.specs.Calls.{Answer, refused, NearestPoint, nearest, nearest_output}
+use Rattle.definitions.specs.Kept.{Held, holds, search_for, further, answer_of}
+use Rattle.definitions.specs.Block.{Block, slot_in}
 use Rattle.definitions.specs.Named.{checks_of_named, nearest_named, block_after_named, checks_of_pick_up, pick_up, block_after_pick_up}
 use Rattle.definitions.proofs.Answers.{output_found, after_pass, nearest_checked, nearest_checks_are, within_small}
 use Rattle.theorems.specs.Doubles.{of_doubles}
-use Rattle.theorems.specs.Refusals.{Fits, NoneFits, FirstFits}
+use Rattle.theorems.specs.Refusals.{NoneFits, FirstFits}
 use Rattle.theorems.specs.Answers.{NoMinusZero, Under}
 use Rattle.theorems.specs.Promises.{nearest_call_checks, NearestPromises}
-use Rattle.theorems.specs.Running.{Exhausted, Ended, NearestRunning}
-use Rattle.theorems.specs.Kept.{IsName, IsBlock, zero_block, OthersStay, Keeps, Call, named, picked, after_calls, AllLeaveOrPick, budgets_for, Reached, NamedAccepted, NamedPromises, PickUpAccepted, PickUpPromises}
+use Rattle.theorems.specs.Running.{NearestRunning}
+use Rattle.theorems.specs.Kept.{IsName, IsBlock, Keeps, Call, named, picked, after_calls, AllLeaveOrPick, budgets_for, NamedPromises, PickUpPromises}
 use Rattle.theorems.proofs.FirstRefusal.{decision, first_fits, first_cases, numbered_as, first_of_number, none_passes}
 use Rattle.theorems.proofs.MinusZero.{call_clear}
 use Rattle.theorems.proofs.Accepted.{nearest_accepts}
 use Rattle.theorems.proofs.Promises.{nearest_promises}
 use Rattle.theorems.proofs.RunningCalls.{nearest_running}
-use Rattle.theorems.proofs.KeptSearches.{Going, going, search_further, search_answer}
+use Rattle.theorems.proofs.KeptSearches.{going, search_further, search_answer}
 use Rattle.theorems.proofs.KeptChecks.{named_numbered, named_indices, named_clear, named_accepts, sum_refused, pick_up_numbered, pick_up_accepts}
 use Rattle.theorems.proofs.NamedCalls.{named_answer, named_demand, named_stays, named_kept, named_cases, named_block_lengths, named_as_nearest}
-use Rattle.theorems.proofs.PickUpCalls.{picked_answer, picked_demand, picked_stays, picked_15, picked_goes_on, picked_held, picked_empty, picked_lengths}
+use Rattle.theorems.proofs.PickUpCalls.{picked_demand, picked_stays, picked_15, picked_goes_on, picked_held, picked_empty, picked_lengths}
 use Rattle.theorems.proofs.KeptDecides.{named_name_and_block, named_gives_2, picked_name_and_block, picked_gives_26, picked_gives_6, picked_gives_27}
 use Rattle.theorems.proofs.KeptLists.{holds≢free, named_leaves, picked_leaves, kept_on, calls_kept, reached_by}
 

@@ -10,12 +10,12 @@ use mathlib.Core.List.{List, [], ◌∷◌}
 use lib.ListN.{length}
 use lib.Ieee.{Float}
 use Rattle.definitions.specs.Table.{Table, dimension, largest_budget}
-use Rattle.definitions.specs.Walk.{Walked, ended, exhausted}
+use Rattle.definitions.specs.Walk.{ended, exhausted}
 use Rattle.definitions.specs.Nearest.{nearest_walk}
 use Rattle.definitions.specs.Machine.{Frame, Machine, machine, run_for, begin, came, outcome_of}
 use Rattle.definitions.specs.Refusals.{budget_exhausted}
-use Rattle.definitions.specs.Calls.{Answer, refused, NearestPoint, end_of_nearest}
-use Rattle.definitions.specs.Kept.{Held, Slot, free, holds, search_for, further, answer_of, if_over, slot_for}
+use Rattle.definitions.specs.Calls.{refused, end_of_nearest}
+use Rattle.definitions.specs.Kept.{Held, search_for, further, answer_of, if_over}
 use Rattle.definitions.proofs.Leaves.{ended_is_not_exhausted}
 use Rattle.definitions.proofs.Machine.{run_zero, begin_nodes, over_stays, came_over, came_waiting}
 use Rattle.definitions.proofs.Answers.{end_exhausted}

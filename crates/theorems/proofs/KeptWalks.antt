@@ -14,9 +14,9 @@ use Rattle.lists.specs.Places.{places}
 use Rattle.lists.proofs.Places.{places_none, places_set, places_other}
 use Rattle.definitions.specs.Table.{Table, dimension, weight, plus_zero}
 use Rattle.definitions.specs.Distance.{term, center}
-use Rattle.definitions.specs.Zigzag.{Zigzag, Next, child, none, Start, open_level, no_children, start, next, after_nearest}
+use Rattle.definitions.specs.Zigzag.{Zigzag, Next, child, none, Start, open_level, no_children, start, next}
 use Rattle.definitions.specs.Nearest.{Best, no_best, best, replaces}
-use Rattle.definitions.specs.Machine.{Frame, Machine, machine, push, opened, best_after, descend, visited, advance, step, run_for, begin}
+use Rattle.definitions.specs.Machine.{Frame, Machine, machine, push, opened, descend, visited, advance, step, run_for, begin}
 use Rattle.definitions.proofs.Zigzags.{start_opens, next_first, next_follows, next_emits}
 use Rattle.definitions.proofs.Machine.{push_child, push_none, opened_open, opened_closed, descend_leaf, descend_level, visited_true, visited_false, advance_over, advance_child, step_is, run_zero, run_suc, begin_is}
 

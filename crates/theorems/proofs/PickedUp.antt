@@ -1,10 +1,9 @@
 -- A machine that runs for a budget ends as the nearest walk does with it, and one that is picked up with further budgets as the walk with their sum. Assumes nothing.
-use mathlib.Core.Path.{◌≡◌, refl, sym, ap, ◌∙◌}
+use mathlib.Core.Path.{◌≡◌, sym, ap, ◌∙◌}
 use Prim.Native.Nat.{ℕ, zero, suc, ◌+◌}
 use native.Mathlib.Omega.{arith}
 use mathlib.Core.Bool.{Bool, true, false}
 use mathlib.Core.List.{List, [], ◌∷◌}
-use lib.IntN.{ℤ}
 use lib.Ieee.{Float}
 use Rattle.definitions.specs.Table.{Table, dimension, plus_zero}
 use Rattle.definitions.specs.Walk.{Walked, ended, exhausted}

@@ -11,9 +11,9 @@ use borrow.Author.Tests.{lt-ltb, le-ltb}
 use lib.Dec.{T, ltb}
 use lib.ListN.{length}
 use lib.IntN.{ℤ}
-use lib.Ieee.{Float, binary64, fits, le}
-use Rattle.rounding.proofs.Interface.{number, zero_nonneg, nonneg_not_lt, not_lt→le}
-use Rattle.definitions.specs.Table.{Table, dimension, plus_zero, largest_searched}
+use lib.Ieee.{Float, binary64, fits}
+use Rattle.rounding.proofs.Interface.{zero_nonneg, nonneg_not_lt, not_lt→le}
+use Rattle.definitions.specs.Table.{Table, dimension, largest_searched}
 use Rattle.definitions.specs.Admitted.{is_vector}
 use Rattle.definitions.specs.Walk.{Walked, ended, exhausted}
 use Rattle.definitions.specs.Nearest.{Best, best}
@@ -21,7 +21,7 @@ use Rattle.definitions.specs.Listing.{ListPoint, sorted}
 use Rattle.definitions.specs.Running.{running_nearest, running_list, nearest_search, list_search}
 use Rattle.definitions.specs.Refusals.{Refusal, budget_exhausted, outside_radius, list_full}
 use Rattle.definitions.specs.Checks.{Verdict, pass, refuse, first_refusal, table_checks, length_check, target_check, radius_check, handed_on, budget_check, list_size_check}
-use Rattle.definitions.specs.Calls.{Answer, found, refused, after, NearestPoint, end_of_nearest, nearest_within, search_checks, nearest, nearest_output, ListAnswer, end_of_list, list, list_distances, list_points}
+use Rattle.definitions.specs.Calls.{Answer, found, refused, after, NearestPoint, end_of_nearest, search_checks, nearest, nearest_output, ListAnswer, end_of_list, list, list_distances, list_points}
 use Rattle.definitions.proofs.Passed.{budget_passes}
 use Rattle.definitions.proofs.Answers.{after_pass, after_refuse, by_dimension, search_small, search_large, list_search_small, list_search_large, end_exhausted, end_nothing, within_is, found≢refused, refused_same, list_exhausted, list_full_lem, list_sorted, list_walked}
 use Rattle.theorems.specs.Doubles.{of_doubles}

@@ -6,7 +6,7 @@ use native.Mathlib.Omega.{arith}
 use mathlib.Core.Bool.{Bool, true, false, ◌&&◌}
 use mathlib.Core.List.{List, [], ◌∷◌}
 use lib.Dec.{T, lit≤}
-use lib.ListN.{length, get_or, drop}
+use lib.ListN.{get_or, drop}
 use lib.IntN.{ℤ, pos}
 use lib.Ieee.{Float, nan, binary64, add, sub, le}
 use Rattle.rounding.specs.Kinds.{Finite, NonNegative}

@@ -1,10 +1,9 @@
 -- The walk with running centres: what holds of each leaf, of the radius that stands and of what is kept, and how it ends at a budget. Assumes nothing.
-use mathlib.Core.Path.{◌≡◌, refl, sym, ap, ◌∙◌, subst}
+use mathlib.Core.Path.{◌≡◌, sym, ap, subst}
 use mathlib.Core.Logic.{inl, inr}
-use Prim.Native.Nat.{ℕ, suc, ◌+◌, ◌≤◌, ◌<◌, zero-le}
+use Prim.Native.Nat.{ℕ, suc, ◌+◌, ◌<◌, zero-le}
 use native.Mathlib.Nat.{zero-add}
 use native.Mathlib.Omega.{arith}
-use mathlib.Core.Bool.{Bool, true, false, cond}
 use mathlib.Core.List.{List, [], ◌∷◌}
 use lib.Dec.{T}
 use lib.ListN.{length, get_or}
@@ -18,7 +17,7 @@ use Rattle.definitions.specs.Table.{Table, dimension, weight, plus_zero}
 use Rattle.definitions.specs.Distance.{term}
 use Rattle.definitions.specs.Admitted.{all_i64, is_vector}
 use Rattle.definitions.specs.Walk.{Walked, ended, exhausted, Leaf, walk}
-use Rattle.definitions.specs.Running.{Running, initialize_centers, update_centers, Beside, beside, with_running, only_kept, leaf_beside, running_centers, running_walk}
+use Rattle.definitions.specs.Running.{Running, initialize_centers, Beside, beside, with_running, only_kept, leaf_beside, running_centers, running_walk}
 use Rattle.definitions.proofs.Distances.{term_is}
 use Rattle.definitions.proofs.Admissions.{all_i64_nil, all_i64_intro, vector_intro}
 use Rattle.definitions.proofs.Running.{running_walk_is}

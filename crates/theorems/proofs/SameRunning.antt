@@ -2,7 +2,7 @@
 use mathlib.Core.Path.{◌≡◌, refl, sym, ap, ◌∙◌}
 use mathlib.Core.Bool.{cond}
 use mathlib.Core.List.{List, []}
-use Prim.Native.Nat.{ℕ, zero, suc, ◌+◌, ◌*◌, ◌≤◌, ◌<◌}
+use Prim.Native.Nat.{ℕ, zero, suc, ◌*◌, ◌≤◌, ◌<◌}
 use native.Mathlib.Nat.{lt_of_lt_of_le}
 use native.Mathlib.Omega.{arith}
 use lib.ListN.{length, get_or, take, drop, set, replicate, length-take, length-drop}
@@ -11,8 +11,8 @@ use lib.IntN.{ℤ, pos}
 use lib.Ieee.{Float, nan, binary64, sub}
 use Rattle.rounding.specs.Integers.{to_double}
 use Rattle.definitions.specs.Table.{Table, table, dimension, coordinate, plus_zero}
-use Rattle.definitions.specs.Walk.{Walked, ended, Leaf, walk}
-use Rattle.definitions.specs.Running.{Running, add_row, row_of, add_rows, initialize_centers, same_integer, update_centers, Beside, beside, only_kept, leaf_beside, running_centers, running_walk}
+use Rattle.definitions.specs.Walk.{ended, Leaf, walk}
+use Rattle.definitions.specs.Running.{Running, add_row, row_of, add_rows, initialize_centers, same_integer, update_centers, beside, only_kept, leaf_beside, running_centers, running_walk}
 use Rattle.theorems.specs.SameRead.{SameRead}
 use Rattle.theorems.proofs.SameWalks.{same_walk}
 

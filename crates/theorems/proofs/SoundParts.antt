@@ -1,20 +1,20 @@
 -- A sound part holds a search that fits, whoever wrote it; and what a pickup writes into it is read again. Assumes nothing.
 use mathlib.Core.Path.{◌≡◌, refl, sym, ap, ◌∙◌, subst}
-use Prim.Native.Nat.{ℕ, zero, suc, ◌+◌, ◌-◌, ◌*◌, ◌≤◌, ◌<◌}
+use Prim.Native.Nat.{ℕ, zero, suc, ◌+◌, ◌*◌, ◌≤◌, ◌<◌}
 use native.Mathlib.Nat.{mul-le-mul}
 use native.Mathlib.Omega.{arith}
 use mathlib.Core.Bool.{Bool, true, false, cond}
 use mathlib.Core.List.{List, []}
-use lib.ListN.{length, get_or, take, drop, length-drop}
+use lib.ListN.{length, take, drop, length-drop}
 use lib.Seq.{take-take, length-take-le, get_or-take}
 use lib.IntN.{ℤ}
 use lib.Ieee.{Float, nan}
 use Rattle.lists.proofs.Segments.{part_front}
 use Rattle.definitions.specs.Table.{Table, dimension, largest_budget}
-use Rattle.definitions.specs.Nearest.{Best, no_best, best}
-use Rattle.definitions.specs.Machine.{Frame, Machine}
-use Rattle.definitions.specs.Kept.{Held, holds}
-use Rattle.definitions.specs.Block.{Block, part_dimension, part_nodes, part_found, part_open, part_level, levels_rise, is_sound, part_table, part_target, part_frame, part_frames, part_best, part_machine, part_held, part_slot, written_walk}
+use Rattle.definitions.specs.Nearest.{no_best, best}
+use Rattle.definitions.specs.Machine.{Machine}
+use Rattle.definitions.specs.Kept.{holds}
+use Rattle.definitions.specs.Block.{Block, part_dimension, part_nodes, part_found, part_open, part_level, levels_rise, is_sound, part_table, part_target, part_frame, part_frames, part_machine, part_held, part_slot, written_walk}
 use Rattle.definitions.proofs.Block.{frames_none, frames_more, Rises, rises, SoundCounts, sound_counts}
 use Rattle.theorems.proofs.KeptWalks.{FrameFits, FramesFit, BestFits, WalkFits}
 use Rattle.theorems.proofs.Written.{IsPart, WalkWritten, walk_part, walk_read}

@@ -1,24 +1,23 @@
 -- A walk that is written into a name's part is read from it again as it was. Assumes nothing.
 use mathlib.Core.Path.{◌≡◌, refl, sym, ap, ◌∙◌, subst}
-use Prim.Native.Nat.{ℕ, zero, suc, ◌+◌, ◌-◌, ◌*◌, ◌^◌, ◌≤◌, ◌<◌}
-use native.Mathlib.Nat.{le_refl, le_trans, mul-le-mul}
+use Prim.Native.Nat.{ℕ, zero, suc, ◌+◌, ◌-◌, ◌*◌, ◌≤◌, ◌<◌}
+use native.Mathlib.Nat.{le_refl, mul-le-mul}
 use native.Mathlib.Omega.{arith}
-use mathlib.Core.Bool.{Bool, true, false, not, ◌&&◌, cond}
+use mathlib.Core.Bool.{Bool, true, false, ◌&&◌, cond}
 use mathlib.Core.List.{List, [], ◌∷◌, ◌++◌, map}
-use lib.Dec.{leb, ltb, eqb}
-use lib.ListN.{length, get_or, take, drop, replicate, length-append, length-map, length-take, length-drop, length-replicate, get_or-append}
+use lib.Dec.{leb, ltb}
+use lib.ListN.{length, get_or, take, drop, replicate, length-append, length-map, length-drop, length-replicate, get_or-append}
 use lib.Seq.{take_at, get_or_at, drop-cons, drop-append-add, drop-drop, take-append-le, length-take-le}
 use lib.IntN.{ℤ, pos}
 use lib.Ieee.{Float, nan}
 use borrow.Author.Tests.{le-leb, lt-ltb}
 use Rattle.lists.specs.Places.{places}
 use Rattle.lists.proofs.Segments.{part_left, part_right, get_d_right, length_padded, get_d_mapped}
-use Rattle.definitions.specs.Table.{Table, table, dimension, weight, plus_zero, largest_budget}
-use Rattle.definitions.specs.Zigzag.{Zigzag}
+use Rattle.definitions.specs.Table.{Table, dimension, weight, plus_zero, largest_budget}
 use Rattle.definitions.specs.Nearest.{Best, no_best, best}
 use Rattle.definitions.specs.Machine.{Frame, Machine}
-use Rattle.definitions.specs.Kept.{Held, Slot, free, holds}
-use Rattle.definitions.specs.Block.{Block, nonzero, part_dimension, part_nodes, part_open, part_level, part_step, part_table, part_target, part_frame, part_best, part_frames, levels_rise, is_sound, part_machine, part_held, part_slot, padded, flag, point_under_trial, best_point, has_best, written_table, written_walk, written_search, zero_part}
+use Rattle.definitions.specs.Kept.{free, holds}
+use Rattle.definitions.specs.Block.{Block, nonzero, part_dimension, part_nodes, part_level, part_step, part_table, part_frame, part_best, part_frames, levels_rise, is_sound, part_machine, part_held, part_slot, padded, flag, point_under_trial, best_point, has_best, written_walk}
 use Rattle.definitions.proofs.Block.{frames_none, frames_more, rise_none, rise_more, sound_is}
 use Rattle.theorems.proofs.KeptWalks.{FrameFits, FramesFit, BestFits, WalkFits}
 

@@ -1,5 +1,7 @@
 // Turns of the kept searches at one computer: each serves the next held name after the one last served, with a slice of
 // nodes.
+#![tactic(auto)]
+
 ghost use Rattle.std.specs.Prelude.{◌≡◌, ◌∷◌};
 ghost use Rattle.definitions.specs.Checks.{first_refusal};
 ghost use Rattle.definitions.specs.Block.{block_checks};
@@ -21,7 +23,7 @@ use refusals::{Refusal, Verdict};
 
 // What a turn tells: the name that it served, the n of its search, and the answer. A turn that a check refuses serves no
 // name: 0 and 0.
-#[derive(Drop)]
+#[derive(Clone, Copy)]
 pub struct TurnAnswer {
     pub name: u64,
     pub n: u64,

@@ -3,6 +3,8 @@
 // in brackets, then the name last served and the output at exit, in square brackets. A line of names has for each of them
 // the n of the search that it holds, or `-`. Where a case parts the specification from another reading, its comment names
 // that.
+#![tactic(auto)]
+
 use enumerate::NearestAnswer;
 use kept::{nearest_named, pick_up};
 use printing::values::*;

@@ -1,5 +1,7 @@
 // Numbers, words and refusal lines as text, into a lent slice of bytes. Each public function writes from an index on and
 // gives the index after its text; the bytes before and after the text stay as they are.
+#![tactic(auto)]
+
 ghost use Rattle.std.specs.Prelude.{◌≡◌, ◌+◌, ◌<◌, ◌≤◌, [], length};
 ghost use Rattle.definitions.specs.JobText as J;
 ghost use Rattle.definitions.specs.Lent.{at_entry, at_exit};

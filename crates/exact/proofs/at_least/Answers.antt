@@ -6,8 +6,7 @@ use native.Mathlib.Omega.{arith}
 use borrow.Author.Tests.{le-leb, lt-leb, leb-true, leb-false}
 use lib.Dec.{leb}
 use Rattle.exact.specs.Value.{value}
-use Rattle.exact.proofs.at_least.Statement.{statement}
-use Rattle.exact.proofs.at_least.Tie as tie
+use Rattle.exact.proofs.at_least.Goals as goal
 
 -- with equal high parts the low ones decide
 same_high : (h g l k : ℕ) → h ≡ g → leb l k ≡ leb (h * 2 ^ 58 + l) (g * 2 ^ 58 + k)
@@ -17,20 +16,17 @@ same_high h g l k e = by (leb l k) refl
     by true q = sym (le-leb (h * 2 ^ 58 + l) (g * 2 ^ 58 + k) (omega (arith, leb-true l k q)))
     by false q = sym (lt-leb (h * 2 ^ 58 + l) (g * 2 ^ 58 + k) (omega (arith, leb-false l k q)))
 
-returns : tie.Need-returns
+pub returns-then-p-n : goal.returns-then-p-n
+returns-then-p-n c =
+    let a = c.args in
+    sym (le-leb (value a.n) (value a.p) (omega (arith, c.if-p-n.true)))
+
+pub returns-then-p-n-2 : goal.returns-then-p-n-2
+returns-then-p-n-2 c =
+    let a = c.args in
+    sym (lt-leb (value a.n) (value a.p) (omega (arith, c.if-p-n-2.true)))
+
+pub returns : goal.returns
 returns c =
-    let a = c.before.before.before.args in
-    sym (le-leb (value a.n) (value a.p) (omega (arith, c.if1.true)))
-
-returns-2 : tie.Need-returns-2
-returns-2 c =
-    let a = c.before.before.before.before.before.before.args in
-    sym (lt-leb (value a.n) (value a.p) (omega (arith, c.if2.true)))
-
-returns-3 : tie.Need-returns-3
-returns-3 c =
-    let a = c.before.before.before.before.before.before.before.before.args in
-    same_high a.n.hi a.p.hi a.n.lo a.p.lo (omega (arith, c.before.before.if2.false, c.before.before.before.before.before.if1.false))
-
-pub at-least-spec : {M : Type 1} → statement M
-at-least-spec = tie.close (tie.spec returns returns-2 returns-3)
+    let a = c.args in
+    same_high a.n.hi a.p.hi a.n.lo a.p.lo (omega (arith, c.if-p-n-2.false, c.if-p-n.false))
