@@ -17,7 +17,7 @@ use rounding::{round_away, to_double};
 // Writes `round_away` of each coefficient to out.
 fn round_all(coefficients: &[f64], out: &mut [i64])
     requires { length coefficients.now ≡ length out.old }
-    ensures { at_exit out ≡ map round_away (at_entry coefficients) }
+    ensures { out.new ≡ map round_away (at_entry coefficients) }
 {
     let mut i = 0;
     while i < out.len() {
@@ -31,7 +31,7 @@ fn round_all(coefficients: &[f64], out: &mut [i64])
 // Refused: 6, out not as long as coefficients (their length, out's); 7, a coefficient not finite (first index).
 // A refusal leaves out as it was.
 pub fn round(coefficients: &[f64], out: &mut [i64]) -> Verdict
-    ensures { RoundAnswered (at_entry coefficients) (at_entry out) result (at_exit out) }
+    ensures { RoundAnswered (at_entry coefficients) out.old result out.new }
 {
     let checked = round_check(coefficients, out);
     if let Verdict::Refuse(_) = checked {
@@ -44,7 +44,7 @@ pub fn round(coefficients: &[f64], out: &mut [i64]) -> Verdict
 // The levels from n - 1 down to 0: the integers go to out, what is left to the coefficients.
 pub fn plane_levels(weights: &[f64], mu: &[f64], coefficients: &mut [f64], out: &mut [i64])
     requires { ShapedOut largest_dimension weights.now mu.now coefficients.old out.old }
-    ensures { PlaneWritten (table_at weights mu) (at_entry coefficients) (at_exit coefficients) (at_exit out) }
+    ensures { PlaneWritten (table_at weights mu) coefficients.old coefficients.new out.new }
 {
     let n = weights.len();
     let mut depth = n;
@@ -70,7 +70,7 @@ pub fn nearest_plane(
     coefficients: &mut [f64],
     out: &mut [i64],
 ) -> Verdict
-    ensures { PlaneAnswered (table_at weights mu) (at_entry coefficients) (at_entry out) result (at_exit coefficients) (at_exit out) }
+    ensures { PlaneAnswered (table_at weights mu) coefficients.old out.old result coefficients.new out.new }
 {
     let checked = plane_check(LARGEST_DIMENSION, weights, mu, coefficients, out);
     if let Verdict::Refuse(_) = checked {

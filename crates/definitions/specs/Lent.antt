@@ -1,13 +1,13 @@
--- What a lent slice holds when a function is entered and when it returns, for contracts. Definitions only.
+-- What a lent slice holds when a function is entered and, where it may be written, when it returns, for contracts. Definitions only.
 use Rattle.std.specs.Prelude.{List, Float}
-use Rattle.std.specs.Borrow.{Bor}
+use Rattle.std.specs.Borrow.{Bor, MutBor}
 use denote.Triple.Both.{Both}
 use Rattle.definitions.specs.Table.{Table, table}
 
 abbrev pub at_entry : {X S : Type 0} → Both (Bor X) S → X
 at_entry x = x.entry.now
 
-abbrev pub at_exit : {E X : Type 0} → Both E (Bor X) → X
+abbrev pub at_exit : {E X : Type 0} → Both E (MutBor X) → X
 at_exit x = x.exit.now
 
 -- the table that two slices hold at entry

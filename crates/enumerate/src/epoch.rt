@@ -20,7 +20,7 @@ pub fn epoch(
     budget: u64,
 ) -> NearestAnswer
     requires { ShapedOut largest_searched weights.now mu.now target.now out.old }
-    ensures { NearestAnswered (epoch_answer (table_at weights mu) (at_entry target) radius budget) (at_entry out) result (at_exit out) }
+    ensures { NearestAnswered (epoch_answer (table_at weights mu) (at_entry target) radius budget) out.old result out.new }
 {
     let checked = epoch_check(target, radius, budget);
     if let Verdict::Refuse(e) = checked {

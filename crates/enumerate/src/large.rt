@@ -20,7 +20,7 @@ pub fn running_walk(
     budget: u64,
 ) -> Ending
     requires { WalkShaped largest_searched weights.now mu.now target.now out.old budget }
-    ensures { NearestWalked (running_nearest (table_at weights mu) (at_entry target) radius budget) (at_entry out) result (at_exit out) }
+    ensures { NearestWalked (running_nearest (table_at weights mu) (at_entry target) radius budget) out.old result out.new }
 {
     let mut best = [0i64; LARGEST_SEARCHED];
     let mut distances = [0.0; 0];

@@ -54,7 +54,7 @@ fn nearest_walk(
     budget: u64,
 ) -> Ending
     requires { WalkShaped largest_dimension weights.now mu.now target.now out.old budget }
-    ensures { NearestWalked (nearest_walk (table_at weights mu) (at_entry target) radius budget) (at_entry out) result (at_exit out) }
+    ensures { NearestWalked (nearest_walk (table_at weights mu) (at_entry target) radius budget) out.old result out.new }
 {
     let mut rest = [0.0; LARGEST_DIMENSION];
     let mut distances = [0.0; 0];
@@ -96,7 +96,7 @@ fn search_walk(
     budget: u64,
 ) -> Ending
     requires { WalkShaped largest_searched weights.now mu.now target.now out.old budget }
-    ensures { NearestWalked (nearest_search (table_at weights mu) (at_entry target) radius budget) (at_entry out) result (at_exit out) }
+    ensures { NearestWalked (nearest_search (table_at weights mu) (at_entry target) radius budget) out.old result out.new }
 {
     if weights.len() <= LARGEST_DIMENSION {
         return nearest_walk(weights, mu, target, out, radius, budget);
@@ -130,7 +130,7 @@ pub fn nearest_within(
     budget: u64,
 ) -> NearestAnswer
     requires { WalkShaped largest_searched weights.now mu.now target.now out.old budget }
-    ensures { NearestAnswered (C.nearest_within (table_at weights mu) (at_entry target) radius budget) (at_entry out) result (at_exit out) }
+    ensures { NearestAnswered (C.nearest_within (table_at weights mu) (at_entry target) radius budget) out.old result out.new }
 {
     let end = search_walk(weights, mu, target, out, radius, budget);
     answer_of(end, radius)
@@ -149,7 +149,7 @@ pub fn nearest(
     radius: f64,
     budget: u64,
 ) -> NearestAnswer
-    ensures { NearestAnswered (C.nearest (table_at weights mu) (at_entry target) (at_entry out) radius budget) (at_entry out) result (at_exit out) }
+    ensures { NearestAnswered (C.nearest (table_at weights mu) (at_entry target) out.old radius budget) out.old result out.new }
 {
     let checked = nearest_check(LARGEST_SEARCHED, weights, mu, target, out, radius, budget);
     if let Verdict::Refuse(e) = checked {

@@ -56,7 +56,7 @@ pub enum Printed {
 // Writes the line of a nearest search, whose point is zs.
 fn nearest_line(out: &mut [u8], at: usize, answer: NearestAnswer, zs: &[i64]) -> usize
     requires { Room out.old at nearest_size (length zs.now) largest_dimension }
-    ensures { Written (at_entry out) at (J.nearest_line (nearest_answer answer (at_entry zs))) nearest_size result (at_exit out) }
+    ensures { Written out.old at (J.nearest_line (nearest_answer answer (at_entry zs))) nearest_size result out.new }
 {
     match answer {
         NearestAnswer::Found(f) => {
@@ -77,7 +77,7 @@ fn nearest_line(out: &mut [u8], at: usize, answer: NearestAnswer, zs: &[i64]) ->
 // Writes the line of a listed point.
 fn listed_line(out: &mut [u8], at: usize, distance: f64, zs: &[i64]) -> usize
     requires { Room out.old at listed_size (length zs.now) largest_dimension }
-    ensures { Written (at_entry out) at (listed_line distance (at_entry zs)) listed_size result (at_exit out) }
+    ensures { Written out.old at (listed_line distance (at_entry zs)) listed_size result out.new }
 {
     let after_distance = hexadecimal(out, at, distance);
     let after_point = point(out, after_distance, zs);
@@ -94,7 +94,7 @@ fn listed_lines(
     points: &[i64],
 ) -> usize
     requires { LinesRoom out.old at (listed_size * k) n k distances.now points.now }
-    ensures { Written (at_entry out) at (J.listed_lines (rows n k (at_entry distances) (at_entry points))) (listed_size * k) result (at_exit out) }
+    ensures { Written out.old at (J.listed_lines (rows n k (at_entry distances) (at_entry points))) (listed_size * k) result out.new }
 {
     let mut next = at;
     let mut i = 0;
@@ -117,7 +117,7 @@ fn list_lines(
     points: &[i64],
 ) -> usize
     requires { LinesRoom out.old at (list_size (points_of answer)) n (points_of answer) distances.now points.now }
-    ensures { Written (at_entry out) at (list_text answer n (at_entry distances) (at_entry points)) (list_size (points_of answer)) result (at_exit out) }
+    ensures { Written out.old at (list_text answer n (at_entry distances) (at_entry points)) (list_size (points_of answer)) result out.new }
 {
     match answer {
         ListAnswer::Found(f) => {
@@ -148,7 +148,7 @@ fn points_of(answer: ListAnswer) -> usize
 // Writes the ratio's line.
 fn ratio_line(out: &mut [u8], at: usize, ratio: Ratio) -> usize
     requires { at + ratio_size ≤ length out.old }
-    ensures { Written (at_entry out) at (J.ratio_line (verdict_of ratio)) ratio_size result (at_exit out) }
+    ensures { Written out.old at (J.ratio_line (verdict_of ratio)) ratio_size result out.new }
 {
     match ratio {
         Ratio::Holds => put(out, at, b"ratio holds\n"),
@@ -161,7 +161,7 @@ fn ratio_line(out: &mut [u8], at: usize, ratio: Ratio) -> usize
 // Writes the nearest line of a job.
 fn nearest_part(out: &mut [u8], job: Job) -> usize
     requires { JobRoom out.old 0 nearest_size job }
-    ensures { Written (at_entry out) 0 (J.nearest_line (J.job_nearest (job_read job))) nearest_size result (at_exit out) }
+    ensures { Written out.old 0 (J.nearest_line (J.job_nearest (job_read job))) nearest_size result out.new }
 {
     let n = job.n;
     let size = n * n;
@@ -183,7 +183,7 @@ fn nearest_part(out: &mut [u8], job: Job) -> usize
 // Writes the list's lines of a job and the ratio's.
 fn list_part(out: &mut [u8], at: usize, job: Job) -> usize
     requires { ListRoom out.old at list_part_size job }
-    ensures { Written (at_entry out) at (list_part (job_read job)) list_part_size result (at_exit out) }
+    ensures { Written out.old at (list_part (job_read job)) list_part_size result out.new }
 {
     let n = job.n;
     let size = n * n;
@@ -224,7 +224,7 @@ fn list_part(out: &mut [u8], at: usize, job: Job) -> usize
 // Writes the text of a job that was read.
 fn job_text(out: &mut [u8], job: Job) -> usize
     requires { JobRoom out.old 0 output_size job }
-    ensures { Written (at_entry out) 0 (J.job_text (layout_read job)) output_size result (at_exit out) }
+    ensures { Written out.old 0 (J.job_text (layout_read job)) output_size result out.new }
 {
     if !job.whole {
         return refusal_line(out, 0, b"job", 1);
@@ -244,7 +244,7 @@ fn job_text(out: &mut [u8], job: Job) -> usize
 // Answers a job: reads its bytes and writes its text over the first places of `out`. An output that is too short for the
 // text stays as it is; one of OUTPUT_SIZE bytes is never too short. The call needs about 1.2 MB of stack.
 pub fn answer_job(input: &[u8], out: &mut [u8]) -> Printed
-    ensures { JobAnswered (J.job_output (at_entry input)) (at_entry out) result (at_exit out) }
+    ensures { JobAnswered (J.job_output (at_entry input)) out.old result out.new }
 {
     let mut text = [0u8; OUTPUT_SIZE];
     let count = job_text(&mut text, read(input));
@@ -259,7 +259,7 @@ pub fn answer_job(input: &[u8], out: &mut [u8]) -> Printed
 // that of the whole input.
 pub fn answer_input(buffer: &[u8], count: usize, out: &mut [u8]) -> Printed
     requires { BufferRead buffer.now count }
-    ensures { InputAnswered (take count (at_entry buffer)) (at_entry out) result (at_exit out) }
+    ensures { InputAnswered (take count (at_entry buffer)) out.old result out.new }
 {
     answer_job(&buffer[..count], out)
 }

@@ -60,7 +60,7 @@ pub fn nearest_named(
     radius: f64,
     budget: u64,
 ) -> NearestAnswer
-    ensures { KeptAnswered (D.nearest_named (block (at_entry reals) (at_entry integers) (at_entry counts)) name (table_at weights mu) (at_entry target) (at_entry out) radius budget) (D.block_after_named (block (at_entry reals) (at_entry integers) (at_entry counts)) name (table_at weights mu) (at_entry target) (at_entry out) radius budget) (at_entry out) result (at_exit out) (block (at_exit reals) (at_exit integers) (at_exit counts)) }
+    ensures { KeptAnswered (D.nearest_named (block reals.old integers.old counts.old) name (table_at weights mu) (at_entry target) out.old radius budget) (D.block_after_named (block reals.old integers.old counts.old) name (table_at weights mu) (at_entry target) out.old radius budget) out.old result out.new (block reals.new integers.new counts.new) }
 {
     let placed = block_check(reals, integers, counts, name);
     if let Verdict::Refuse(e) = placed {
@@ -104,7 +104,7 @@ pub fn pick_up(
     out: &mut [i64],
     budget: u64,
 ) -> NearestAnswer
-    ensures { KeptAnswered (D.pick_up (block (at_entry reals) (at_entry integers) (at_entry counts)) name (at_entry out) budget) (D.block_after_pick_up (block (at_entry reals) (at_entry integers) (at_entry counts)) name (at_entry out) budget) (at_entry out) result (at_exit out) (block (at_exit reals) (at_exit integers) (at_exit counts)) }
+    ensures { KeptAnswered (D.pick_up (block reals.old integers.old counts.old) name out.old budget) (D.block_after_pick_up (block reals.old integers.old counts.old) name out.old budget) out.old result out.new (block reals.new integers.new counts.new) }
 {
     let placed = block_check(reals, integers, counts, name);
     if let Verdict::Refuse(e) = placed {

@@ -15,7 +15,7 @@ use resume::{Walk, begun, residuals_of, run_to};
 // The answer of a walk from a radius that is over: its best goes to out.
 fn end_of(s: Walk, radius: f64, out: &mut [i64]) -> NearestAnswer
     requires { EndReady s out.old }
-    ensures { NearestAnswered (over_answer radius s (at_entry out)) (at_entry out) result (at_exit out) }
+    ensures { NearestAnswered (over_answer radius s out.old) out.old result out.new }
 {
     if !s.found {
         return NearestAnswer::Refused(Refusal::OutsideRadius(radius));
@@ -66,7 +66,7 @@ pub fn pick_up_part(
     budget: u64,
 ) -> NearestAnswer
     requires { PartLengths (block reals.old integers.old counts.old) }
-    ensures { PartPickedUp (block (at_entry reals) (at_entry integers) (at_entry counts)) (at_entry out) budget result (at_exit out) (block (at_exit reals) (at_exit integers) (at_exit counts)) }
+    ensures { PartPickedUp (block reals.old integers.old counts.old) out.old budget result out.new (block reals.new integers.new counts.new) }
 {
     if !is_sound(counts) {
         return NearestAnswer::Refused(Refusal::NameEmpty);
@@ -102,7 +102,7 @@ pub fn nearest_part(
     budget: u64,
 ) -> NearestAnswer
     requires { NamedReady (block reals.old integers.old counts.old) weights.now mu.now target.now out.old budget }
-    ensures { PartNamed (block (at_entry reals) (at_entry integers) (at_entry counts)) (table_at weights mu) (at_entry target) (at_entry out) radius budget result (at_exit out) (block (at_exit reals) (at_exit integers) (at_exit counts)) }
+    ensures { PartNamed (block reals.old integers.old counts.old) (table_at weights mu) (at_entry target) out.old radius budget result out.new (block reals.new integers.new counts.new) }
 {
     let first = begun(mu, weights, target, radius);
     let mut rest = [0.0; LARGEST_DIMENSION];

@@ -1,6 +1,6 @@
 -- What the code's answers stand for. Definitions only.
 use Rattle.std.specs.Prelude.{◌≡◌, ℕ, List, length, ℤ, Float}
-use Rattle.std.specs.Borrow.{Bor}
+use Rattle.std.specs.Borrow.{Bor, MutBor}
 use denote.Triple.Both.{Both}
 use Rattle.definitions.specs.Lent.{at_entry, table_at}
 use Rattle.definitions.specs.Walk.{Walked, ended, exhausted}
@@ -41,5 +41,5 @@ ending_of (exhausted nodes standing) = Exhausted nodes standing
 
 -- the specification's list of what the slices hold at entry
 module _ {A B T D E : Type 0} where
-  abbrev pub list_at : Both (Bor (List Float)) A → Both (Bor (List Float)) B → Both (Bor (List Float)) T → Both (Bor (List Float)) D → Both (Bor (List ℤ)) E → Float → ℕ → Answer C.ListAnswer
-  list_at weights mu target distances points radius budget = C.list (table_at weights mu) (at_entry target) (at_entry distances) (at_entry points) radius budget
+  abbrev pub list_at : Both (Bor (List Float)) A → Both (Bor (List Float)) B → Both (Bor (List Float)) T → Both (MutBor (List Float)) D → Both (MutBor (List ℤ)) E → Float → ℕ → Answer C.ListAnswer
+  list_at weights mu target distances points radius budget = C.list (table_at weights mu) (at_entry target) distances.entry.now points.entry.now radius budget

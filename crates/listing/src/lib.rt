@@ -64,7 +64,7 @@ fn list_into(
     budget: u64,
 ) -> ListAnswer
     requires { IntoReady (table weights.now mu.now) target.now distances.old points.old radius budget measured.old vectors.old order.old spare.old }
-    ensures { ListAnswered (list_at weights mu target distances points radius budget) result (at_entry distances) (at_exit distances) (at_entry points) (at_exit points) }
+    ensures { ListAnswered (list_at weights mu target distances points radius budget) result distances.old distances.new points.old points.new }
 {
     let n = weights.len();
     let start = handed_on(radius);
@@ -125,7 +125,7 @@ fn list_within(
     budget: u64,
 ) -> ListAnswer
     requires { WithinReady (table weights.now mu.now) target.now distances.old points.old radius budget measured.old vectors.old order.old spare.old }
-    ensures { ListAnswered (list_at weights mu target distances points radius budget) result (at_entry distances) (at_exit distances) (at_entry points) (at_exit points) }
+    ensures { ListAnswered (list_at weights mu target distances points radius budget) result distances.old distances.new points.old points.new }
 {
     let room = rooms(vectors.len(), weights.len(), distances.len());
     let size = room * weights.len();
@@ -155,7 +155,7 @@ fn list_long(
     budget: u64,
 ) -> ListAnswer
     requires { ListFits (table weights.now mu.now) target.now distances.old points.old radius budget largest_list }
-    ensures { ListAnswered (list_at weights mu target distances points radius budget) result (at_entry distances) (at_exit distances) (at_entry points) (at_exit points) }
+    ensures { ListAnswered (list_at weights mu target distances points radius budget) result distances.old distances.new points.old points.new }
 {
     let mut measured = [0.0; LARGEST_LIST];
     let mut vectors = [0i64; LARGEST_LIST_POINTS];
@@ -187,7 +187,7 @@ fn list_middle(
     budget: u64,
 ) -> ListAnswer
     requires { ListFits (table weights.now mu.now) target.now distances.old points.old radius budget largest_list }
-    ensures { ListAnswered (list_at weights mu target distances points radius budget) result (at_entry distances) (at_exit distances) (at_entry points) (at_exit points) }
+    ensures { ListAnswered (list_at weights mu target distances points radius budget) result distances.old distances.new points.old points.new }
 {
     let mut measured = [0.0; LARGEST_LIST];
     let mut vectors = [0i64; MIDDLE_LIST_POINTS];
@@ -219,7 +219,7 @@ fn list_short(
     budget: u64,
 ) -> ListAnswer
     requires { ListFits (table weights.now mu.now) target.now distances.old points.old radius budget short_list }
-    ensures { ListAnswered (list_at weights mu target distances points radius budget) result (at_entry distances) (at_exit distances) (at_entry points) (at_exit points) }
+    ensures { ListAnswered (list_at weights mu target distances points radius budget) result distances.old distances.new points.old points.new }
 {
     let mut measured = [0.0; SHORT_LIST];
     let mut vectors = [0i64; SHORT_LIST_POINTS];
@@ -254,7 +254,7 @@ fn list_large(
     budget: u64,
 ) -> ListAnswer
     requires { ListFits (table weights.now mu.now) target.now distances.old points.old radius budget largest_list }
-    ensures { ListAnswered (list_at weights mu target distances points radius budget) result (at_entry distances) (at_exit distances) (at_entry points) (at_exit points) }
+    ensures { ListAnswered (list_at weights mu target distances points radius budget) result distances.old distances.new points.old points.new }
 {
     if distances.len() > LARGEST_LIST {
         list_large(weights, mu, target, distances, points, radius, budget);
@@ -283,7 +283,7 @@ pub fn list(
     radius: f64,
     budget: u64,
 ) -> ListAnswer
-    ensures { ListAnswered (list_at weights mu target distances points radius budget) result (at_entry distances) (at_exit distances) (at_entry points) (at_exit points) }
+    ensures { ListAnswered (list_at weights mu target distances points radius budget) result distances.old distances.new points.old points.new }
 {
     let checked = list_check(
         LARGEST_SEARCHED,

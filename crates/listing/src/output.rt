@@ -13,7 +13,7 @@ use sorting::sort_places;
 // Writes the distances at the places of order, in that order, over the first ones.
 fn write_distances(found: &[f64], order: &[usize], distances: &mut [f64])
     requires { DistancesReady found.now order.now distances.old }
-    ensures { at_exit distances ≡ written (map (λ (i : ℕ). get_or (at_entry found) i nan) (at_entry order)) (at_entry distances) }
+    ensures { distances.new ≡ written (map (λ (i : ℕ). get_or (at_entry found) i nan) (at_entry order)) distances.old }
 {
     let mut i = 0;
     while i < order.len() {
@@ -26,7 +26,7 @@ fn write_distances(found: &[f64], order: &[usize], distances: &mut [f64])
 // Writes the coordinates of the points at the places of order, in that order, over the first ones.
 fn write_points(found: &[i64], order: &[usize], n: usize, points: &mut [i64])
     requires { PointsReady found.now order.now n points.old }
-    ensures { (ds : List Float) → at_exit points ≡ written (coordinates (map (row n ds (at_entry found)) (at_entry order))) (at_entry points) }
+    ensures { (ds : List Float) → points.new ≡ written (coordinates (map (row n ds (at_entry found)) (at_entry order))) points.old }
 {
     let mut i = 0;
     while i < order.len() {
@@ -52,7 +52,7 @@ fn write_list(
     points: &mut [i64],
 )
     requires { WriteReady n measured.now vectors.now order.old spare.old distances.old points.old }
-    ensures { ListWritten (sorted (rows n (length (at_entry measured)) (at_entry measured) (at_entry vectors))) (at_entry distances) (at_exit distances) (at_entry points) (at_exit points) }
+    ensures { ListWritten (sorted (rows n (length (at_entry measured)) (at_entry measured) (at_entry vectors))) distances.old distances.new points.old points.new }
 {
     sort_places(measured, vectors, n, limit, order, spare);
     write_distances(measured, order, distances);
@@ -72,7 +72,7 @@ pub fn write_first(
     points: &mut [i64],
 )
     requires { FirstReady n k measured.now vectors.now order.old spare.old distances.old points.old }
-    ensures { ListWritten (sorted (rows n k (at_entry measured) (at_entry vectors))) (at_entry distances) (at_exit distances) (at_entry points) (at_exit points) }
+    ensures { ListWritten (sorted (rows n k (at_entry measured) (at_entry vectors))) distances.old distances.new points.old points.new }
 {
     let size = k * n;
     write_list(

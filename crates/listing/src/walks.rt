@@ -24,7 +24,7 @@ fn list_walk(
     budget: u64,
 ) -> ListEnding
     requires { WalkReady largest_dimension weights.now mu.now target.now distances.old points.old budget }
-    ensures { ListWalked (length (at_entry weights)) (length (at_entry distances)) (list_walk (table_at weights mu) (at_entry target) radius budget) result (at_exit distances) (at_exit points) }
+    ensures { ListWalked (length (at_entry weights)) (length distances.old) (list_walk (table_at weights mu) (at_entry target) radius budget) result distances.new points.new }
 {
     let mut rest = [0.0; LARGEST_DIMENSION];
     let mut found = 0;
@@ -61,7 +61,7 @@ fn running_walk(
     budget: u64,
 ) -> ListEnding
     requires { WalkReady largest_searched weights.now mu.now target.now distances.old points.old budget }
-    ensures { ListWalked (length (at_entry weights)) (length (at_entry distances)) (running_list (table_at weights mu) (at_entry target) radius budget) result (at_exit distances) (at_exit points) }
+    ensures { ListWalked (length (at_entry weights)) (length distances.old) (running_list (table_at weights mu) (at_entry target) radius budget) result distances.new points.new }
 {
     let mut best = [0i64; LARGEST_SEARCHED];
     let mut found = 0;
@@ -96,7 +96,7 @@ pub fn search_walk(
     budget: u64,
 ) -> ListEnding
     requires { WalkReady largest_searched weights.now mu.now target.now distances.old points.old budget }
-    ensures { ListWalked (length (at_entry weights)) (length (at_entry distances)) (list_search (table_at weights mu) (at_entry target) radius budget) result (at_exit distances) (at_exit points) }
+    ensures { ListWalked (length (at_entry weights)) (length distances.old) (list_search (table_at weights mu) (at_entry target) radius budget) result distances.new points.new }
 {
     if weights.len() <= LARGEST_DIMENSION {
         return list_walk(weights, mu, target, distances, points, radius, budget);
@@ -115,7 +115,7 @@ pub fn walk_in_place(
     budget: u64,
 )
     requires { InPlaceReady weights.now mu.now target.now distances.old points.old radius budget }
-    ensures { InPlace (list_search (table_at weights mu) (at_entry target) radius budget) (at_exit distances) (at_exit points) }
+    ensures { InPlace (list_search (table_at weights mu) (at_entry target) radius budget) distances.new points.new }
 {
     search_walk(weights, mu, target, distances, points, radius, budget);
     sort_rows(distances, points, weights.len());

@@ -150,7 +150,7 @@ fn transformed_coordinate(n: usize, inverse: &[i64], target: &[f64], column: usi
 // Writes the transformed target.
 pub fn transform_target(inverse: &[i64], target: &[f64], transformed: &mut [f64])
     requires { TargetShaped (length transformed.old) inverse.now target.now }
-    ensures { at_exit transformed ≡ transformed_target (length (at_entry transformed)) (at_entry inverse) (at_entry target) }
+    ensures { transformed.new ≡ transformed_target (length transformed.old) (at_entry inverse) (at_entry target) }
 {
     let n = transformed.len();
     let mut column = 0;
@@ -163,7 +163,7 @@ pub fn transform_target(inverse: &[i64], target: &[f64], transformed: &mut [f64]
 // Writes the mapped point, each coordinate an exact sum; 24 where one is no i64 (its column), with part of it written.
 pub fn map_point(transform: &[i64], point: &[i64], mapped: &mut [i64]) -> Verdict
     requires { PointShaped (length mapped.old) transform.now point.now }
-    ensures { Mapped (length (at_entry mapped)) (at_entry transform) (at_entry point) result (at_exit mapped) }
+    ensures { Mapped (length mapped.old) (at_entry transform) (at_entry point) result mapped.new }
 {
     let n = mapped.len();
     let mut column = 0;

@@ -23,7 +23,7 @@ fn flag_of(b: bool) -> u64
 // The doubles of a walk, behind table, target and radius.
 pub fn write_reals(s: Walk, reals: &mut [f64])
     requires { ColumnsReady reals_of_part s reals.old }
-    ensures { at_exit reals ≡ reals_of (take 576 (at_entry reals)) s }
+    ensures { reals.new ≡ reals_of (take 576 reals.old) s }
 {
     let start = STANDING;
     clear_f64(&mut reals[start..]);
@@ -43,7 +43,7 @@ pub fn write_reals(s: Walk, reals: &mut [f64])
 // The integers of its open levels, behind the point under trial and the best.
 pub fn write_integers(s: Walk, integers: &mut [i64])
     requires { ColumnsReady integers_of_part s integers.old }
-    ensures { at_exit integers ≡ integers_behind (take 46 (at_entry integers)) (open_levels s) }
+    ensures { integers.new ≡ integers_behind (take 46 integers.old) (open_levels s) }
 {
     let start = NEAREST;
     clear_i64(&mut integers[start..]);
@@ -63,7 +63,7 @@ pub fn write_integers(s: Walk, integers: &mut [i64])
 // The counts of a walk of n levels.
 pub fn write_counts(n: usize, s: Walk, counts: &mut [u64])
     requires { ColumnsReady counts_of_part s counts.old }
-    ensures { at_exit counts ≡ counts_of n s }
+    ensures { counts.new ≡ counts_of n s }
 {
     clear_u64(counts);
     counts[DIMENSION] = n as u64;

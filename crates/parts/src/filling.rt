@@ -8,7 +8,7 @@ ghost use Rattle.parts.specs.Levels.{coordinates, PlacesReady};
 use lists::{copy_f64, copy_i64};
 
 pub fn clear_f64(to: &mut [f64])
-    ensures { at_exit to ≡ replicate (length (at_entry to)) plus_zero }
+    ensures { to.new ≡ replicate (length to.old) plus_zero }
 {
     let mut i = 0;
     while i < to.len() {
@@ -18,7 +18,7 @@ pub fn clear_f64(to: &mut [f64])
 }
 
 pub fn clear_i64(to: &mut [i64])
-    ensures { at_exit to ≡ replicate (length (at_entry to)) (pos 0) }
+    ensures { to.new ≡ replicate (length to.old) (pos 0) }
 {
     let mut i = 0;
     while i < to.len() {
@@ -28,7 +28,7 @@ pub fn clear_i64(to: &mut [i64])
 }
 
 pub fn clear_u64(to: &mut [u64])
-    ensures { at_exit to ≡ replicate (length (at_entry to)) 0 }
+    ensures { to.new ≡ replicate (length to.old) 0 }
 {
     let mut i = 0;
     while i < to.len() {
@@ -40,7 +40,7 @@ pub fn clear_u64(to: &mut [u64])
 // Copies a slice, with zeros in the places behind it.
 pub fn copy_padded(from: &[f64], to: &mut [f64])
     requires { length from.now ≤ length to.old }
-    ensures { at_exit to ≡ padded plus_zero (length (at_entry to)) (at_entry from) }
+    ensures { to.new ≡ padded plus_zero (length to.old) (at_entry from) }
 {
     clear_f64(to);
     let n = from.len();
@@ -50,7 +50,7 @@ pub fn copy_padded(from: &[f64], to: &mut [f64])
 // Copies the places from `low` to `end`, with zeros in the others.
 pub fn copy_places(from: &[i64], low: usize, end: usize, to: &mut [i64])
     requires { PlacesReady from.now low end to.old }
-    ensures { at_exit to ≡ coordinates (length (at_entry to)) low end (at_entry from) }
+    ensures { to.new ≡ coordinates (length to.old) low end (at_entry from) }
 {
     clear_i64(to);
     copy_i64(&from[low..end], &mut to[low..end]);

@@ -72,7 +72,7 @@ pub fn read_walk(reals: &[f64], integers: &[i64], counts: &[u64]) -> Walk
 // Writes what stays of a search as long as it is kept: weights, mu and target, each with zeros behind, and the radius.
 pub fn write_table(weights: &[f64], mu: &[f64], target: &[f64], radius: f64, reals: &mut [f64])
     requires { TableReady weights.now mu.now target.now reals.old }
-    ensures { at_exit reals ≡ written_table (table_at weights mu) (at_entry target) radius ++ drop 576 (at_entry reals) }
+    ensures { reals.new ≡ written_table (table_at weights mu) (at_entry target) radius ++ drop 576 reals.old }
 {
     let mu_start = LARGEST_DIMENSION;
     let mu_end = mu_start + LARGEST_SQUARE;
@@ -97,7 +97,7 @@ fn best_size(found: bool, n: usize) -> usize
 // level are written as 0, and so are the best, if there is none, and the places behind the last open level.
 pub fn write_walk(n: usize, s: Walk, reals: &mut [f64], integers: &mut [i64], counts: &mut [u64])
     requires { WriteReady n s (block reals.old integers.old counts.old) }
-    ensures { WalkWritten n s (take 576 (at_entry reals)) (at_exit reals) (at_exit integers) (at_exit counts) }
+    ensures { WalkWritten n s (take 576 reals.old) reals.new integers.new counts.new }
 {
     write_reals(s, reals);
     let top = s.count - 1;
@@ -112,7 +112,7 @@ pub fn write_walk(n: usize, s: Walk, reals: &mut [f64], integers: &mut [i64], co
 
 // Makes a part empty: every place is 0.
 pub fn clear(reals: &mut [f64], integers: &mut [i64], counts: &mut [u64])
-    ensures { Holds (zeros (block (at_entry reals) (at_entry integers) (at_entry counts))) (at_exit reals) (at_exit integers) (at_exit counts) }
+    ensures { Holds (zeros (block reals.old integers.old counts.old)) reals.new integers.new counts.new }
 {
     clear_f64(reals);
     clear_i64(integers);

@@ -50,7 +50,7 @@ fn mapped_answer(
     out: &mut [i64],
 ) -> NearestAnswer
     requires { MapShaped transform.now point.now out.old }
-    ensures { NearestAnswered (P.mapped_answer (length (at_entry out)) (at_entry transform) (nearest_answer answer (at_entry point))) (at_entry out) result (at_exit out) }
+    ensures { NearestAnswered (P.mapped_answer (length out.old) (at_entry transform) (nearest_answer answer (at_entry point))) out.old result out.new }
 {
     if let NearestAnswer::Refused(_) = answer {
         return answer;
@@ -78,7 +78,7 @@ fn transformed_search(
     point: &mut [i64],
 ) -> NearestAnswer
     requires { PreparedShaped weights.now mu.now transform.now inverse.now target.now out.old transformed.old point.old }
-    ensures { NearestAnswered (searched_at (table_at weights mu) (at_entry transform) (P.transformed_of (table_at weights mu) (at_entry inverse) (at_entry target)) budget) (at_entry out) result (at_exit out) }
+    ensures { NearestAnswered (searched_at (table_at weights mu) (at_entry transform) (P.transformed_of (table_at weights mu) (at_entry inverse) (at_entry target)) budget) out.old result out.new }
 {
     transform_target(inverse, target, transformed);
     let checked = target_budget_check(transformed, budget);
@@ -106,7 +106,7 @@ pub fn prepared_nearest_ml(
     out: &mut [i64],
     budget: u64,
 ) -> NearestAnswer
-    ensures { NearestAnswered (P.prepared_nearest_ml (table_at weights mu) (at_entry transform) (at_entry inverse) (at_entry target) (at_entry out) budget) (at_entry out) result (at_exit out) }
+    ensures { NearestAnswered (P.prepared_nearest_ml (table_at weights mu) (at_entry transform) (at_entry inverse) (at_entry target) out.old budget) out.old result out.new }
 {
     let checked = given_check(weights, mu, transform, inverse, target, out);
     if let Verdict::Refuse(e) = checked {

@@ -145,7 +145,7 @@ fn layout_at(input: &[u8]) -> Layout
 // The doubles from an offset on, by their bits, go to out.
 fn doubles_at(input: &[u8], offset: usize, out: &mut [f64])
     requires { offset + 8 * length out.old ≤ length input.now }
-    ensures { at_exit out ≡ doubles (items_at (at_entry input) offset (length (at_entry out))) }
+    ensures { out.new ≡ doubles (items_at (at_entry input) offset (length out.old)) }
 {
     let mut i = 0;
     while i < out.len() {
@@ -157,7 +157,7 @@ fn doubles_at(input: &[u8], offset: usize, out: &mut [f64])
 // mu's rows in a section, each of as many entries as its number, go to the n·n zeros of mu.
 fn rows_at(input: &[u8], section: usize, n: usize, mu: &mut [f64])
     requires { RowsWithin input.now section n mu.old }
-    ensures { at_exit mu ≡ mu_rows n (doubles (items_at (at_entry input) (section + 4) (D.triangle n))) n }
+    ensures { mu.new ≡ mu_rows n (doubles (items_at (at_entry input) (section + 4) (D.triangle n))) n }
 {
     let mut j = 0;
     let mut at = section + 4;

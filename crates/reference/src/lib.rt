@@ -61,7 +61,7 @@ fn change_check(point: &[i64], r: usize) -> Verdict
 // Changes each coordinate. a(r) is kept from before the first of them, since its own place changes too.
 fn change_all(point: &mut [i64], r: usize)
     requires { Accepted point.old r }
-    ensures { at_exit point ≡ changed_point (at_entry point) r }
+    ensures { point.new ≡ changed_point point.old r }
 {
     let subtrahend = point[r];
     let mut i = 0;
@@ -78,7 +78,7 @@ fn change_all(point: &mut [i64], r: usize)
 // Refused: 19, r not below the length; 20, a coordinate that becomes no i64 (first index). A refusal leaves the point as
 // it was.
 pub fn change_reference(point: &mut [i64], r: usize) -> Verdict
-    ensures { ChangeAnswered (at_entry point) r result (at_exit point) }
+    ensures { ChangeAnswered point.old r result point.new }
 {
     let checked = change_check(point, r);
     if let Verdict::Refuse(_) = checked {

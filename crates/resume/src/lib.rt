@@ -190,7 +190,7 @@ pub fn residuals_of(
     rest: &mut [f64; LARGEST_DIMENSION],
 )
     requires { ResidualsReady target.now point.now rest.old }
-    ensures { ResidualsOf (at_entry target) (at_entry point) (at_exit rest) }
+    ensures { ResidualsOf (at_entry target) (at_entry point) rest.new }
 {
     let mut depth = target.len();
     while depth > 0 {
@@ -214,7 +214,7 @@ pub fn run_to(
     mut s: Walk,
 ) -> Walk
     requires { RunReady weights.now mu.now target.now rest.old budget s }
-    ensures { RanTo (at_entry weights) (at_entry mu) (at_entry target) budget s (at_exit rest) result }
+    ensures { RanTo (at_entry weights) (at_entry mu) (at_entry target) budget s rest.new result }
 {
     while s.nodes < budget {
         if s.count == 0 {

@@ -12,7 +12,7 @@ use rounding::to_double;
 // Adds a row's entries, times the factor, to the first centres.
 fn add_row(row: &[f64], factor: f64, centers: &mut [f64])
     requires { length row.now ≤ length centers.old }
-    ensures { at_exit centers ≡ add_row factor (at_entry row) (at_entry centers) }
+    ensures { centers.new ≡ add_row factor (at_entry row) centers.old }
 {
     let mut i = 0;
     while i < row.len() {
@@ -24,7 +24,7 @@ fn add_row(row: &[f64], factor: f64, centers: &mut [f64])
 // The centres of all levels where every coordinate is 0.
 pub fn initialize_centers(mu: &[f64], target: &[f64], centers: &mut [f64])
     requires { InitializeReady mu.now target.now centers.old }
-    ensures { at_exit centers ≡ start_centers (at_entry mu) (at_entry target) }
+    ensures { centers.new ≡ start_centers (at_entry mu) (at_entry target) }
 {
     let n = target.len();
     copy_f64(target, centers);
@@ -49,7 +49,7 @@ pub fn update_centers(
     value: f64,
 )
     requires { UpdateReady (table weights.now mu.now) point.old centers.old level z value }
-    ensures { Updated (table_at weights mu) level z (at_entry point) (at_exit point) (at_entry centers) (at_exit centers) }
+    ensures { Updated (table_at weights mu) level z point.old point.new centers.old centers.new }
 {
     let old = point[level];
     if old == z {

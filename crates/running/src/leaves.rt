@@ -15,7 +15,7 @@ fn taken(
     distance: f64,
     s: Standing,
 ) -> Standing
-    ensures { search_of (at_entry point) (at_exit best) result ≡ with_best (search_of (at_entry point) (at_entry best) s) distance }
+    ensures { search_of (at_entry point) best.new result ≡ with_best (search_of (at_entry point) best.old s) distance }
 {
     let p = *point;
     *best = p;
@@ -36,7 +36,7 @@ pub fn consider(
     s: Standing,
 ) -> Standing
     requires { ConsiderReady n point.now best.old }
-    ensures { ConsideredBy n (at_entry point) (at_entry best) s distance (at_entry found) (at_exit best) result (at_exit found) }
+    ensures { ConsideredBy n (at_entry point) best.old s distance found.old best.new result found.new }
 {
     if *found == 0 {
         *found = 1;

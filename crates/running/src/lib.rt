@@ -108,7 +108,7 @@ pub fn search(
     radius: f64,
 ) -> Standing
     requires { SearchReady weights.now mu.now target.now best.old distances.old points.old found.old exhausted.old budget }
-    ensures { Searched listing (table_at weights mu) (at_entry target) radius budget (at_entry distances) (at_entry points) result (at_exit best) (at_exit distances) (at_exit points) (at_exit found) (at_exit exhausted) }
+    ensures { Searched listing (table_at weights mu) (at_entry target) radius budget distances.old points.old result best.new distances.new points.new found.new exhausted.new }
 {
     let mut point = [0; LARGEST_SEARCHED];
     let mut centers = [0.0; LARGEST_SEARCHED];

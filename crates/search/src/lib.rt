@@ -76,7 +76,7 @@ fn with_best(s: RecursiveSearch, distance: f64) -> RecursiveSearch
 // near and lexicographically first. `found` is 0 as long as there is none, and 1 then.
 fn consider(s: RecursiveSearch, n: usize, distance: f64, found: &mut u64) -> RecursiveSearch
     requires { n ≤ largest_dimension }
-    ensures { Considered n s distance (at_entry found) result (at_exit found) }
+    ensures { Considered n s distance found.old result found.new }
 {
     if *found == 0 {
         *found = 1;
@@ -103,7 +103,7 @@ pub fn push(
     found: &mut u64,
 )
     requires { PushReady n point.now found.old distances.old points.old }
-    ensures { Pushed n (at_entry point) distance (at_entry found) (at_exit found) (at_entry distances) (at_exit distances) (at_entry points) (at_exit points) }
+    ensures { Pushed n (at_entry point) distance found.old found.new distances.old distances.new points.old points.new }
 {
     let at = *found as usize;
     *found += 1;

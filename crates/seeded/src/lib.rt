@@ -27,7 +27,7 @@ fn widened_search(
     budget: u64,
 ) -> NearestAnswer
     requires { WalkShaped largest_dimension weights.now mu.now target.now out.old budget }
-    ensures { NearestAnswered (C.widened_search (table_at weights mu) (at_entry target) radius budget) (at_entry out) result (at_exit out) }
+    ensures { NearestAnswered (C.widened_search (table_at weights mu) (at_entry target) radius budget) out.old result out.new }
 {
     let wide = widened_radius(weights.len(), radius);
     nearest_within(weights, mu, target, out, wide, budget)
@@ -50,7 +50,7 @@ pub fn nearest_seeded(
     radius: f64,
     budget: u64,
 ) -> NearestAnswer
-    ensures { NearestAnswered (C.nearest_seeded (table_at weights mu) (at_entry target) (at_entry out) (at_entry candidate) radius budget) (at_entry out) result (at_exit out) }
+    ensures { NearestAnswered (C.nearest_seeded (table_at weights mu) (at_entry target) out.old (at_entry candidate) radius budget) out.old result out.new }
 {
     let checked = seeded_check(
         LARGEST_DIMENSION,
@@ -105,7 +105,7 @@ pub fn ml_search(
     budget: u64,
 ) -> NearestAnswer
     requires { WalkShaped largest_dimension weights.now mu.now target.now out.old budget }
-    ensures { NearestAnswered (ml_search (table_at weights mu) (at_entry target) budget) (at_entry out) result (at_exit out) }
+    ensures { NearestAnswered (ml_search (table_at weights mu) (at_entry target) budget) out.old result out.new }
 {
     let radius = ml_radius(weights, mu, target);
     let inside = total_check(weights.len(), radius);
@@ -130,7 +130,7 @@ pub fn nearest_ml(
     out: &mut [i64],
     budget: u64,
 ) -> NearestAnswer
-    ensures { NearestAnswered (C.nearest_ml (table_at weights mu) (at_entry target) (at_entry out) budget) (at_entry out) result (at_exit out) }
+    ensures { NearestAnswered (C.nearest_ml (table_at weights mu) (at_entry target) out.old budget) out.old result out.new }
 {
     let checked = ml_check(LARGEST_DIMENSION, weights, mu, target, out, budget);
     if let Verdict::Refuse(e) = checked {

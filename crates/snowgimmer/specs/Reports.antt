@@ -1,6 +1,6 @@
 -- What the C interface tells of an answer beside the lent slices: a number, two whole numbers and a double. Definitions only.
 use Rattle.std.specs.Prelude.{ℕ, Float}
-use Rattle.std.specs.Borrow.{Bor}
+use Rattle.std.specs.Borrow.{MutBor}
 use denote.Triple.Both.{Both}
 use Rattle.definitions.specs.Table.{plus_zero}
 use Rattle.definitions.specs.Lent.{at_exit}
@@ -18,7 +18,7 @@ abbrev pub told : ℕ → ℕ → ℕ → Float → Report
 told number a b x = record { number = number; first = a; second = b; real = x }
 
 -- what an exported function tells: its result and what it writes through its three pointers
-abbrev pub told_at : {S S' S'' : Type 0} → ℕ → Both S (Bor ℕ) → Both S' (Bor ℕ) → Both S'' (Bor Float) → Report
+abbrev pub told_at : {S S' S'' : Type 0} → ℕ → Both S (MutBor ℕ) → Both S' (MutBor ℕ) → Both S'' (MutBor Float) → Report
 told_at number a b x = told number (at_exit a) (at_exit b) (at_exit x)
 
 -- a refusal: its number and its values, 0 for what it does not carry

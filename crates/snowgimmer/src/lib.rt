@@ -55,7 +55,7 @@ pub extern "C" fn snowgimmer_nearest(
     second: &mut u64,
     real: &mut f64,
 ) -> u32
-    ensures { NearestTold (table_at weights mu) (at_entry target) (at_entry out) radius budget (told_at result first second real) (at_exit out) }
+    ensures { NearestTold (table_at weights mu) (at_entry target) out.old radius budget (told_at result first second real) out.new }
 {
     let answer = nearest(weights, mu, target, out, radius, budget);
     stored(nearest_report(answer), first, second, real)
@@ -78,7 +78,7 @@ pub extern "C" fn snowgimmer_nearest_seeded(
     second: &mut u64,
     real: &mut f64,
 ) -> u32
-    ensures { SeededTold (table_at weights mu) (at_entry target) (at_entry out) (at_entry candidate) radius budget (told_at result first second real) (at_exit out) }
+    ensures { SeededTold (table_at weights mu) (at_entry target) out.old (at_entry candidate) radius budget (told_at result first second real) out.new }
 {
     read_integers(candidate);
     let answer = nearest_seeded(weights, mu, target, out, candidate, radius, budget);
@@ -100,7 +100,7 @@ pub extern "C" fn snowgimmer_nearest_ml(
     second: &mut u64,
     real: &mut f64,
 ) -> u32
-    ensures { MlTold (table_at weights mu) (at_entry target) (at_entry out) budget (told_at result first second real) (at_exit out) }
+    ensures { MlTold (table_at weights mu) (at_entry target) out.old budget (told_at result first second real) out.new }
 {
     let answer = nearest_ml(weights, mu, target, out, budget);
     stored(nearest_report(answer), first, second, real)
@@ -124,7 +124,7 @@ pub extern "C" fn snowgimmer_prepared_nearest_ml(
     second: &mut u64,
     real: &mut f64,
 ) -> u32
-    ensures { PreparedTold (table_at weights mu) (at_entry transform) (at_entry inverse) (at_entry target) (at_entry out) budget (told_at result first second real) (at_exit out) }
+    ensures { PreparedTold (table_at weights mu) (at_entry transform) (at_entry inverse) (at_entry target) out.old budget (told_at result first second real) out.new }
 {
     let answer = prepared_nearest_ml(weights, mu, transform, inverse, target, out, budget);
     stored(nearest_report(answer), first, second, real)
@@ -150,7 +150,7 @@ pub extern "C" fn snowgimmer_nearest_named(
     second: &mut u64,
     real: &mut f64,
 ) -> u32
-    ensures { NamedTold (block (at_entry reals) (at_entry integers) (at_entry counts)) name (table_at weights mu) (at_entry target) (at_entry out) radius budget (told_at result first second real) (at_exit out) (block (at_exit reals) (at_exit integers) (at_exit counts)) }
+    ensures { NamedTold (block reals.old integers.old counts.old) name (table_at weights mu) (at_entry target) out.old radius budget (told_at result first second real) out.new (block reals.new integers.new counts.new) }
 {
     let answer = nearest_named(
         reals, integers, counts, name, weights, mu, target, out, radius, budget,
@@ -174,7 +174,7 @@ pub extern "C" fn snowgimmer_pick_up(
     second: &mut u64,
     real: &mut f64,
 ) -> u32
-    ensures { PickUpTold (block (at_entry reals) (at_entry integers) (at_entry counts)) name (at_entry out) budget (told_at result first second real) (at_exit out) (block (at_exit reals) (at_exit integers) (at_exit counts)) }
+    ensures { PickUpTold (block reals.old integers.old counts.old) name out.old budget (told_at result first second real) out.new (block reals.new integers.new counts.new) }
 {
     let answer = pick_up(reals, integers, counts, name, out, budget);
     stored(nearest_report(answer), first, second, real)
@@ -201,7 +201,7 @@ pub extern "C" fn snowgimmer_turn(
     second: &mut u64,
     real: &mut f64,
 ) -> u32
-    ensures { TurnTold (block (at_entry reals) (at_entry integers) (at_entry counts)) (at_entry last) (at_entry out) slice (at_exit name) (at_exit n) (told_at result first second real) (at_exit out) (block (at_exit reals) (at_exit integers) (at_exit counts)) (at_exit last) }
+    ensures { TurnTold (block reals.old integers.old counts.old) last.old out.old slice name.new n.new (told_at result first second real) out.new (block reals.new integers.new counts.new) last.new }
 {
     let told = turn(reals, integers, counts, last, out, slice);
     *name = told.name;
@@ -228,7 +228,7 @@ pub extern "C" fn snowgimmer_list(
     second: &mut u64,
     real: &mut f64,
 ) -> u32
-    ensures { ListTold (table_at weights mu) (at_entry target) (at_entry distances) (at_entry points) radius budget (told_at result first second real) (at_exit distances) (at_exit points) }
+    ensures { ListTold (table_at weights mu) (at_entry target) distances.old points.old radius budget (told_at result first second real) distances.new points.new }
 {
     let answer = list(weights, mu, target, distances, points, radius, budget);
     stored(list_report(answer), first, second, real)
@@ -265,7 +265,7 @@ pub extern "C" fn snowgimmer_round(
     second: &mut u64,
     real: &mut f64,
 ) -> u32
-    ensures { RoundTold (at_entry coefficients) (at_entry out) (told_at result first second real) (at_exit out) }
+    ensures { RoundTold (at_entry coefficients) out.old (told_at result first second real) out.new }
 {
     let answer = round(coefficients, out);
     stored(verdict_report(answer), first, second, real)
@@ -284,7 +284,7 @@ pub extern "C" fn snowgimmer_nearest_plane(
     second: &mut u64,
     real: &mut f64,
 ) -> u32
-    ensures { PlaneTold (table_at weights mu) (at_entry coefficients) (at_entry out) (told_at result first second real) (at_exit coefficients) (at_exit out) }
+    ensures { PlaneTold (table_at weights mu) coefficients.old out.old (told_at result first second real) coefficients.new out.new }
 {
     let answer = nearest_plane(weights, mu, coefficients, out);
     stored(verdict_report(answer), first, second, real)
@@ -325,7 +325,7 @@ pub extern "C" fn snowgimmer_change_reference(
     second: &mut u64,
     real: &mut f64,
 ) -> u32
-    ensures { ChangeTold (at_entry point) r (told_at result first second real) (at_exit point) }
+    ensures { ChangeTold point.old r (told_at result first second real) point.new }
 {
     read_integers(point);
     let answer = change_reference(point, r);

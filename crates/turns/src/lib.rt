@@ -64,7 +64,7 @@ fn serve_part(
     slice: u64,
 ) -> NearestAnswer
     requires { PartReady (block reals.old integers.old counts.old) out.old }
-    ensures { PartServed (block (at_entry reals) (at_entry integers) (at_entry counts)) (at_entry out) slice result (at_exit out) (block (at_exit reals) (at_exit integers) (at_exit counts)) }
+    ensures { PartServed (block reals.old integers.old counts.old) out.old slice result out.new (block reals.new integers.new counts.new) }
 {
     let nodes = counts[1];
     if slice > LARGEST_BUDGET - nodes {
@@ -85,7 +85,7 @@ fn serve(
     slice: u64,
 ) -> TurnAnswer
     requires { ServeReady (block reals.old integers.old counts.old) out.old name }
-    ensures { NameServed (block (at_entry reals) (at_entry integers) (at_entry counts)) (at_entry out) name slice result (at_exit out) (block (at_exit reals) (at_exit integers) (at_exit counts)) }
+    ensures { NameServed (block reals.old integers.old counts.old) out.old name slice result out.new (block reals.new integers.new counts.new) }
 {
     let at = (name - 1) as usize;
     let r = at * 646;
@@ -123,7 +123,7 @@ pub fn turn(
     out: &mut [i64],
     slice: u64,
 ) -> TurnAnswer
-    ensures { TurnAnswered (block (at_entry reals) (at_entry integers) (at_entry counts)) (at_entry last) (at_entry out) slice result (at_exit out) (block (at_exit reals) (at_exit integers) (at_exit counts)) (at_exit last) }
+    ensures { TurnAnswered (block reals.old integers.old counts.old) last.old out.old slice result out.new (block reals.new integers.new counts.new) last.new }
 {
     let checked = slice_check(reals, integers, counts, slice);
     if let Verdict::Refuse(e) = checked {

@@ -26,7 +26,7 @@ pub const COORDINATE_SIZE: usize = 2 + DECIMAL_SIZE;
 // Writes the bytes as they are.
 pub fn put(out: &mut [u8], at: usize, bytes: &[u8]) -> usize
     requires { at + length bytes.now ≤ length out.old }
-    ensures { Written (at_entry out) at (at_entry bytes) (length (at_entry bytes)) result (at_exit out) }
+    ensures { Written out.old at (at_entry bytes) (length (at_entry bytes)) result out.new }
 {
     let mut i = 0;
     while i < bytes.len() {
@@ -50,7 +50,7 @@ fn digit(d: u64) -> u8
 // Fills the digits from the end with n in decimal, and gives the index of the first.
 fn decimal_digits(n: u64, digits: &mut [u8; DECIMAL_SIZE]) -> usize
     requires { length digits.old ≡ decimal_size }
-    ensures { DecimalDigits n result (at_exit digits) }
+    ensures { DecimalDigits n result digits.new }
 {
     let mut left = n;
     let mut start = LAST_DIGIT;
@@ -66,7 +66,7 @@ fn decimal_digits(n: u64, digits: &mut [u8; DECIMAL_SIZE]) -> usize
 // Writes n in decimal.
 pub fn decimal(out: &mut [u8], at: usize, n: u64) -> usize
     requires { at + decimal_size ≤ length out.old }
-    ensures { Written (at_entry out) at (J.decimal n) decimal_size result (at_exit out) }
+    ensures { Written out.old at (J.decimal n) decimal_size result out.new }
 {
     let mut digits = [0u8; DECIMAL_SIZE];
     let start = decimal_digits(n, &mut digits);
@@ -76,7 +76,7 @@ pub fn decimal(out: &mut [u8], at: usize, n: u64) -> usize
 // Writes z in decimal, with a minus before it where it is negative.
 pub fn signed_decimal(out: &mut [u8], at: usize, z: i64) -> usize
     requires { at + signed_decimal_size ≤ length out.old }
-    ensures { Written (at_entry out) at (J.signed_decimal z) signed_decimal_size result (at_exit out) }
+    ensures { Written out.old at (J.signed_decimal z) signed_decimal_size result out.new }
 {
     if z >= 0 {
         return decimal(out, at, z as u64);
@@ -89,7 +89,7 @@ pub fn signed_decimal(out: &mut [u8], at: usize, z: i64) -> usize
 // Fills the digits with a number's hexadecimal ones, in upper case.
 fn hexadecimal_digits(n: u64, digits: &mut [u8; HEXADECIMAL_SIZE])
     requires { length digits.old ≡ hexadecimal_size }
-    ensures { at_exit digits ≡ J.hexadecimal_before hexadecimal_size n [] }
+    ensures { digits.new ≡ J.hexadecimal_before hexadecimal_size n [] }
 {
     let mut left = n;
     let mut start = HEXADECIMAL_SIZE;
@@ -103,7 +103,7 @@ fn hexadecimal_digits(n: u64, digits: &mut [u8; HEXADECIMAL_SIZE])
 // Writes the 16 upper-case hexadecimal digits of a double's bits; a NaN's are 7FF8000000000000.
 pub fn hexadecimal(out: &mut [u8], at: usize, x: f64) -> usize
     requires { at + hexadecimal_size ≤ length out.old }
-    ensures { Written (at_entry out) at (J.hexadecimal x) hexadecimal_size result (at_exit out) }
+    ensures { Written out.old at (J.hexadecimal x) hexadecimal_size result out.new }
 {
     let mut digits = [0u8; HEXADECIMAL_SIZE];
     hexadecimal_digits(to_bits(x), &mut digits);
@@ -113,7 +113,7 @@ pub fn hexadecimal(out: &mut [u8], at: usize, x: f64) -> usize
 // Writes the coordinates of a point, each after a blank.
 pub fn point(out: &mut [u8], at: usize, zs: &[i64]) -> usize
     requires { at + point_size (length zs.now) ≤ length out.old }
-    ensures { Written (at_entry out) at (J.point_text (at_entry zs)) (point_size (length (at_entry zs))) result (at_exit out) }
+    ensures { Written out.old at (J.point_text (at_entry zs)) (point_size (length (at_entry zs))) result out.new }
 {
     let mut next = at;
     let mut i = 0;
@@ -128,7 +128,7 @@ pub fn point(out: &mut [u8], at: usize, zs: &[i64]) -> usize
 // Writes the group of a refusal's number.
 pub fn group(out: &mut [u8], at: usize, number: u64) -> usize
     requires { at + group_size ≤ length out.old }
-    ensures { Written (at_entry out) at (J.group number) group_size result (at_exit out) }
+    ensures { Written out.old at (J.group number) group_size result out.new }
 {
     match number {
         0..=1 => put(out, at, b"layout"),
@@ -143,7 +143,7 @@ pub fn group(out: &mut [u8], at: usize, number: u64) -> usize
 // end.
 pub fn refusal_line(out: &mut [u8], at: usize, word: &[u8], number: u64) -> usize
     requires { at + (length word.now + refusal_size) ≤ length out.old }
-    ensures { Written (at_entry out) at (J.refusal_line (at_entry word) number) (length (at_entry word) + refusal_size) result (at_exit out) }
+    ensures { Written out.old at (J.refusal_line (at_entry word) number) (length (at_entry word) + refusal_size) result out.new }
 {
     let after_word = put(out, at, word);
     let after_verb = put(out, after_word, b" refused ");

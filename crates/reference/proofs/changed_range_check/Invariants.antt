@@ -1,0 +1,21 @@
+-- `changed_range_check` meets its contract: no coordinate passed has the fault. Assumes nothing.
+use mathlib.Core.Path.{◌≡◌, sym, ◌∙◌}
+use mathlib.Core.Bool.{false}
+use Prim.Native.Nat.{ℕ, ◌<◌, ◌≤◌, ◌-◌}
+use native.Mathlib.Omega.{arith}
+use borrow.Author.Count.{below_none, below_more}
+use borrow.Author.Rules.{rules}
+use lib.ListN.{length}
+use mir.Syntax.{w64}
+use mir.ValLaws.{to_z-of_z}
+use Rattle.definitions.specs.Refusals.{changed_range}
+use Rattle.definitions.specs.Reference.{changed_fault}
+use Rattle.definitions.proofs.Verdicts.{first_fault, no_fault}
+use Rattle.reference.proofs.Changes.{fault_tested}
+use Rattle.reference.proofs.changed_range_check.Given as goal
+
+abbrev pub invariant-loop-i : goal.invariant-loop-i
+invariant-loop-i l = (l.i ≤ length l.point) × ((k : ℕ) → k < l.i → changed_fault l.point l.r k ≡ false)
+
+abbrev pub decreases-loop-i : goal.decreases-loop-i
+decreases-loop-i l = length l.point - l.i
