@@ -1,6 +1,6 @@
 -- A call of the walk: what it starts from, what it asks for and what it leaves. Definitions only.
 use Rattle.std.specs.Prelude.{◌≡◌, Bool, false, List, ℕ, ◌+◌, ◌*◌, ◌≤◌, length, ℤ, Float}
-use Rattle.std.specs.Borrow.{Bor}
+use Rattle.std.specs.Borrow.{Bor, MutBor}
 use denote.Triple.Both.{Both}
 use Rattle.lists.specs.Places.{places}
 use Rattle.definitions.specs.Table.{Table, table, dimension, largest_searched, largest_list, largest_budget}
@@ -97,7 +97,7 @@ pub record Returned (q : Call) (x : State) : Type 0 where
   pub preserved : Preserved q x
 
 -- ---- the arguments of `run`
-abbrev pub call_of : Bor (List Float) → Bor (List Float) → Bor (List ℤ) → Bor (List ℤ) → Bor (List Float) → Bor (List Float) → Bor (List ℤ) → Bor ℕ → Bor Bool → Bool → ℕ → ℕ → Float → Standing → Call
+abbrev pub call_of : Bor (List Float) → Bor (List Float) → MutBor (List ℤ) → MutBor (List ℤ) → MutBor (List Float) → MutBor (List Float) → MutBor (List ℤ) → MutBor ℕ → MutBor Bool → Bool → ℕ → ℕ → Float → Standing → Call
 call_of mu weights point best centers distances points found exhausted listing budget depth partial s = record {
   listing = listing;
   table = table weights.now mu.now;
@@ -109,12 +109,12 @@ call_of mu weights point best centers distances points found exhausted listing b
 
 module _ {A B C D E F G H I : Type 0} where
   -- as they are at entry
-  abbrev pub call_at : Both (Bor (List Float)) A → Both (Bor (List Float)) B → Both (Bor (List ℤ)) C → Both (Bor (List ℤ)) D → Both (Bor (List Float)) E → Both (Bor (List Float)) F → Both (Bor (List ℤ)) G → Both (Bor ℕ) H → Both (Bor Bool) I → Bool → ℕ → ℕ → Float → Standing → Call
+  abbrev pub call_at : Both (Bor (List Float)) A → Both (Bor (List Float)) B → Both (MutBor (List ℤ)) C → Both (MutBor (List ℤ)) D → Both (MutBor (List Float)) E → Both (MutBor (List Float)) F → Both (MutBor (List ℤ)) G → Both (MutBor ℕ) H → Both (MutBor Bool) I → Bool → ℕ → ℕ → Float → Standing → Call
   call_at mu weights point best centers distances points found exhausted listing budget depth partial s =
       call_of mu.entry weights.entry point.entry best.entry centers.entry distances.entry points.entry found.entry exhausted.entry listing budget depth partial s
 
 module _ {A B C D E F G : Type 0} where
   -- and at exit, with its result
-  abbrev pub exit_state : Both A (Bor (List ℤ)) → Both B (Bor (List ℤ)) → Both C (Bor (List Float)) → Both D (Bor (List Float)) → Both E (Bor (List ℤ)) → Both F (Bor ℕ) → Both G (Bor Bool) → Bool → Standing → State
+  abbrev pub exit_state : Both A (MutBor (List ℤ)) → Both B (MutBor (List ℤ)) → Both C (MutBor (List Float)) → Both D (MutBor (List Float)) → Both E (MutBor (List ℤ)) → Both F (MutBor ℕ) → Both G (MutBor Bool) → Bool → Standing → State
   exit_state point best centers distances points found exhausted listing r =
       state (carried listing (search_of point.exit.now best.exit.now r) found.exit.now exhausted.exit.now) centers.exit.now distances.exit.now points.exit.now

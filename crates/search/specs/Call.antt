@@ -1,6 +1,6 @@
 -- A call of the walk: what it starts from, what it asks for and what it leaves. Definitions only.
 use Rattle.std.specs.Prelude.{◌≡◌, Bool, false, List, ℕ, ◌+◌, ◌*◌, ◌≤◌, length, ℤ, Float}
-use Rattle.std.specs.Borrow.{Bor}
+use Rattle.std.specs.Borrow.{Bor, MutBor}
 use denote.Triple.Both.{Both}
 use Rattle.lists.specs.Places.{places}
 use Rattle.definitions.specs.Table.{Table, table, dimension, largest_dimension, largest_list, largest_budget}
@@ -74,7 +74,7 @@ pub record Returned (q : Call) (x : State) : Type 0 where
   pub preserved : Preserved q x
 
 -- ---- the arguments of `run`
-abbrev pub call_of : Bor (List Float) → Bor (List Float) → Bor (List Float) → Bor (List Float) → Bor (List Float) → Bor (List ℤ) → Bor ℕ → Bor Bool → Bool → ℕ → ℕ → Float → RecursiveSearch → Call
+abbrev pub call_of : Bor (List Float) → Bor (List Float) → Bor (List Float) → MutBor (List Float) → MutBor (List Float) → MutBor (List ℤ) → MutBor ℕ → MutBor Bool → Bool → ℕ → ℕ → Float → RecursiveSearch → Call
 call_of mu weights target rest distances points found exhausted listing budget depth partial s = record {
   listing = listing;
   table = table weights.now mu.now;
@@ -87,11 +87,11 @@ call_of mu weights target rest distances points found exhausted listing budget d
 
 module _ {A B C D E F G H : Type 0} where
   -- as they are at entry
-  abbrev pub call_at : Both (Bor (List Float)) A → Both (Bor (List Float)) B → Both (Bor (List Float)) C → Both (Bor (List Float)) D → Both (Bor (List Float)) E → Both (Bor (List ℤ)) F → Both (Bor ℕ) G → Both (Bor Bool) H → Bool → ℕ → ℕ → Float → RecursiveSearch → Call
+  abbrev pub call_at : Both (Bor (List Float)) A → Both (Bor (List Float)) B → Both (Bor (List Float)) C → Both (MutBor (List Float)) D → Both (MutBor (List Float)) E → Both (MutBor (List ℤ)) F → Both (MutBor ℕ) G → Both (MutBor Bool) H → Bool → ℕ → ℕ → Float → RecursiveSearch → Call
   call_at mu weights target rest distances points found exhausted listing budget depth partial s =
       call_of mu.entry weights.entry target.entry rest.entry distances.entry points.entry found.entry exhausted.entry listing budget depth partial s
 
 module _ {A B C D E : Type 0} where
   -- and at exit, with its result
-  abbrev pub exit_state : Both A (Bor (List Float)) → Both B (Bor (List Float)) → Both C (Bor (List ℤ)) → Both D (Bor ℕ) → Both E (Bor Bool) → Bool → RecursiveSearch → State
+  abbrev pub exit_state : Both A (MutBor (List Float)) → Both B (MutBor (List Float)) → Both C (MutBor (List ℤ)) → Both D (MutBor ℕ) → Both E (MutBor Bool) → Bool → RecursiveSearch → State
   exit_state rest distances points found exhausted listing r = state (carried listing r found.exit.now exhausted.exit.now) rest.exit.now distances.exit.now points.exit.now
