@@ -4,7 +4,6 @@ use Rattle.refusals.specs.Numbers.{verdict}
 use Rattle.definitions.specs.Table.{table, largest_dimension}
 use Rattle.definitions.proofs.Answers.{plane_is}
 use Rattle.definitions.proofs.Passed.{plane_passed, plane_refused, plane_written}
-use borrow.Author.Rules.{rules}
 use Rattle.babai.proofs.nearest_plane.Goals as goal
 
 pub returns-in-Refuse : goal.returns-in-Refuse

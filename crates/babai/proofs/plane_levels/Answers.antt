@@ -1,17 +1,16 @@
 -- `plane_levels`: the arrays hold the levels done, and the coefficients below are untouched. Assumes nothing.
 use mathlib.Core.Path.{◌≡◌, refl, ap, ◌∙◌}
-use Prim.Native.Nat.{ℕ, ◌≤◌, ◌<◌, ◌-◌, ◌+◌}
+use Prim.Native.Nat.{◌-◌, ◌+◌}
 use native.Mathlib.Omega.{arith}
-use lib.ListN.{length, get_or, length-set}
+use lib.ListN.{get_or, length-set}
 use lib.Seq.{get_or-set_other}
 use lib.Ieee.{nan}
 use mir.Syntax.{w64}
 use mir.Val.{to_z, of_z}
 use mir.ValLaws.{to_z-of_z}
-use borrow.Author.Rules.{rules}
 use Rattle.definitions.specs.Table.{table}
-use Rattle.definitions.specs.Seeds.{Plane, plane_levels, nearest_plane}
-use Rattle.babai.proofs.Planes.{held, plane_start, plane_turn, plane_end}
+use Rattle.definitions.specs.Seeds.{Plane}
+use Rattle.babai.proofs.Planes.{plane_start, plane_turn, plane_end}
 use Rattle.babai.proofs.plane_levels.Goals as goal
 
 pub loop-depth-init : goal.loop-depth-init

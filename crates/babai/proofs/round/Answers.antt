@@ -3,7 +3,6 @@ use mathlib.Core.Path.{ap, sym, ◌∙◌}
 use Rattle.refusals.specs.Numbers.{verdict}
 use Rattle.definitions.proofs.Answers.{round_is}
 use Rattle.definitions.proofs.Passed.{round_passed, round_refused, round_written}
-use borrow.Author.Rules.{rules}
 use Rattle.babai.proofs.round.Goals as goal
 
 pub returns-in-Refuse : goal.returns-in-Refuse

@@ -1,7 +1,6 @@
 -- `change_check` meets its contract: 19, and after it 20. Assumes nothing.
 use mathlib.Core.Path.{sym, ◌∙◌}
 use native.Mathlib.Omega.{arith}
-use borrow.Author.Rules.{rules}
 use Rattle.definitions.proofs.References.{index_outside, index_inside}
 use Rattle.reference.proofs.change_check.Goals as goal
 

@@ -1,6 +1,5 @@
 -- `change_reference` meets its contract: a refusal of its checks leaves the point, and after a pass `change_all` changes it. Assumes nothing.
 use mathlib.Core.Path.{ap, sym, ◌∙◌}
-use borrow.Author.Rules.{rules}
 use Rattle.refusals.specs.Numbers.{verdict}
 use Rattle.definitions.proofs.References.{change_is, change_refused, change_written, change_accepted}
 use Rattle.reference.proofs.change_reference.Goals as goal

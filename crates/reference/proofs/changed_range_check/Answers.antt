@@ -1,10 +1,8 @@
 -- `changed_range_check` meets its contract: no coordinate passed has the fault. Assumes nothing.
-use mathlib.Core.Path.{◌≡◌, sym, ◌∙◌}
-use mathlib.Core.Bool.{false}
-use Prim.Native.Nat.{ℕ, ◌<◌, ◌≤◌, ◌-◌}
+use mathlib.Core.Bool.{not}
+use mathlib.Core.Path.{ap, sym, ◌∙◌}
 use native.Mathlib.Omega.{arith}
 use borrow.Author.Count.{below_none, below_more}
-use borrow.Author.Rules.{rules}
 use lib.ListN.{length}
 use mir.Syntax.{w64}
 use mir.ValLaws.{to_z-of_z}
@@ -21,13 +19,13 @@ pub returns-then-not-difference_fits : goal.returns-then-not-difference_fits
 returns-then-not-difference_fits c =
     let a = c.args in
     let fault = fault_tested a.point.now a.r c.loop-i.i c.difference_fits.ensures (to_z-of_z w64 _ (record { sfits = c.minuend.type_inv }) ∙ c.minuend.ensures) (to_z-of_z w64 _ (record { sfits = c.subtrahend-1.given })) in
-    sym (first_fault (changed_fault a.point.now a.r) changed_range (length a.point.now) c.loop-i.i (omega arith) c.loop-i.invariant.1 (sym fault ∙ c.if-not-difference_fits.true))
+    sym (first_fault (changed_fault a.point.now a.r) changed_range (length a.point.now) c.loop-i.i (omega arith) c.loop-i.invariant.1 (sym fault ∙ ap not c.if-not-difference_fits.true))
 
 pub loop-i-preserved : goal.loop-i-preserved
 loop-i-preserved c =
     let a = c.args in
     let fault = fault_tested a.point.now a.r c.loop-i.i c.difference_fits.ensures (to_z-of_z w64 _ (record { sfits = c.minuend.type_inv }) ∙ c.minuend.ensures) (to_z-of_z w64 _ (record { sfits = c.subtrahend-1.given })) in
-    (omega arith, below_more _ _ c.loop-i.invariant.1 (sym fault ∙ c.if-not-difference_fits.false))
+    (omega arith, below_more _ _ c.loop-i.invariant.1 (sym fault ∙ ap not c.if-not-difference_fits.false))
 
 pub returns : goal.returns
 returns c =

@@ -1,17 +1,9 @@
 -- `changed_range_check` meets its contract: no coordinate passed has the fault. Assumes nothing.
-use mathlib.Core.Path.{◌≡◌, sym, ◌∙◌}
+use mathlib.Core.Path.{◌≡◌}
 use mathlib.Core.Bool.{false}
 use Prim.Native.Nat.{ℕ, ◌<◌, ◌≤◌, ◌-◌}
-use native.Mathlib.Omega.{arith}
-use borrow.Author.Count.{below_none, below_more}
-use borrow.Author.Rules.{rules}
 use lib.ListN.{length}
-use mir.Syntax.{w64}
-use mir.ValLaws.{to_z-of_z}
-use Rattle.definitions.specs.Refusals.{changed_range}
 use Rattle.definitions.specs.Reference.{changed_fault}
-use Rattle.definitions.proofs.Verdicts.{first_fault, no_fault}
-use Rattle.reference.proofs.Changes.{fault_tested}
 use Rattle.reference.proofs.changed_range_check.Given as goal
 
 abbrev pub invariant-loop-i : goal.invariant-loop-i

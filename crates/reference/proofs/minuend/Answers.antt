@@ -2,7 +2,6 @@
 use mathlib.Core.Path.{◌∙◌}
 use mir.Syntax.{w64}
 use mir.ValLaws.{to_z-of_z}
-use borrow.Author.Rules.{rules}
 use Rattle.reference.proofs.Changes.{own_minuend, other_minuend}
 use Rattle.reference.proofs.minuend.Goals as goal
 
