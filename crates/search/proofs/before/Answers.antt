@@ -1,15 +1,11 @@
 -- `before` compares as `lexicographic` does: the invariant is that the coordinates from `i` on decide. Assumes nothing.
-use mathlib.Core.Path.{◌≡◌, sym, ◌∙◌}
-use Prim.Native.Nat.{◌≤◌, ◌-◌}
+use mathlib.Core.Path.{sym, ◌∙◌}
 use native.Mathlib.Omega.{arith}
-use borrow.Author.Rules.{rules}
 use mir.Syntax.{w64}
 use mir.Val.{SFits}
 use mir.ValLaws.{to_z-of_z}
 use lib.IntN.{pos}
-use lib.ListN.{get_or, take}
-use Rattle.definitions.specs.Nearest.{lexicographic}
-use Rattle.lists.specs.Places.{places}
+use lib.ListN.{get_or}
 use Rattle.search.proofs.Orders.{order_stop, order_less, order_more, order_same}
 use Rattle.search.proofs.before.Goals as goal
 

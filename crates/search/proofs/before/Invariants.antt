@@ -1,16 +1,9 @@
 -- `before` compares as `lexicographic` does: the invariant is that the coordinates from `i` on decide. Assumes nothing.
-use mathlib.Core.Path.{◌≡◌, sym, ◌∙◌}
+use mathlib.Core.Path.{◌≡◌}
 use Prim.Native.Nat.{◌≤◌, ◌-◌}
-use native.Mathlib.Omega.{arith}
-use borrow.Author.Rules.{rules}
-use mir.Syntax.{w64}
-use mir.Val.{SFits}
-use mir.ValLaws.{to_z-of_z}
-use lib.IntN.{pos}
-use lib.ListN.{get_or, take}
+use lib.ListN.{take}
 use Rattle.definitions.specs.Nearest.{lexicographic}
 use Rattle.lists.specs.Places.{places}
-use Rattle.search.proofs.Orders.{order_stop, order_less, order_more, order_same}
 use Rattle.search.proofs.before.Given as goal
 
 abbrev pub invariant-loop-i : goal.invariant-loop-i

@@ -3,7 +3,6 @@ use mathlib.Core.Path.{sym, ◌∙◌}
 use mathlib.Core.Bool.{true, false}
 use Prim.Native.Nat.{◌<◌}
 use native.Mathlib.Omega.{arith}
-use borrow.Author.Rules.{rules}
 use Rattle.search.proofs.NearestLeaf.{replaced, stayed, first, nearer, tied, farther}
 use Rattle.search.proofs.consider.Goals as goal
 use Rattle.search.proofs.consider.Goals.{Else-found-eq0, Start}

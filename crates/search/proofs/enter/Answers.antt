@@ -1,6 +1,5 @@
 -- `enter` makes the generator of a level from the centre that `center` sums. Assumes nothing.
 use mathlib.Core.Path.{ap, ◌∙◌}
-use borrow.Author.Rules.{rules}
 use lib.ListN.{get_or}
 use lib.Ieee.{Float, nan}
 use Rattle.definitions.specs.Zigzag.{start}

@@ -2,7 +2,6 @@
 use Prim.Native.Nat.{◌+◌, ◌*◌, ◌≤◌}
 use native.Mathlib.Omega.{arith}
 use lib.ListN.{length}
-use borrow.Author.Rules.{rules}
 use Rattle.lists.proofs.Copies.{copied_part}
 use Rattle.search.proofs.ListLeaf.{inside, push_full, push_stored}
 use Rattle.search.proofs.push.Goals as goal
