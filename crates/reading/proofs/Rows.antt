@@ -2,7 +2,7 @@
 use mathlib.Core.Path.{◌≡◌, ap, sym, subst, ◌∙◌}
 use mathlib.Core.List.{List, ◌∷◌, ◌++◌, append_assoc, append-nil, map-append}
 use Prim.Native.Nat.{ℕ, zero, suc, ◌+◌, ◌-◌, ◌*◌, ◌≤◌, ◌<◌}
-use native.Mathlib.Nat.{suc-mul, zero-mul, add-mul, add-zero, add-suc, zero-add, suc-add}
+use native.Mathlib.Nat.{le_of_eq, suc-mul, zero-mul, add-mul, add-zero, add-suc, zero-add, suc-add}
 use native.Mathlib.Omega.{arith}
 use lib.ListN.{length, take, drop, replicate, length-append, length-drop, length-map, length-replicate, replicate-append-replicate}
 use lib.Seq.{length-take-le, take_at, drop_at, drop-append-add, drop-drop}
@@ -123,3 +123,10 @@ module _ (n : ℕ) (entries : List Float) (enough : triangle n ≤ length entrie
   all_rows =
       let e : n - n ≡ 0 = omega arith in
       ap (λ (k : ℕ). mu_rows n entries n ++ replicate k plus_zero) (ap (λ (k : ℕ). k * n) e ∙ zero-mul n) ∙ append-nil (mu_rows n entries n)
+
+-- ---- the entries of mu in a section
+abbrev pub entries : List ℕ → ℕ → ℕ → List Float
+entries input section n = doubles (items_at input (section + 4) (triangle n))
+
+pub enough : (input : List ℕ) (section n : ℕ) → triangle n ≤ length (entries input section n)
+enough input section n = le_of_eq (sym (length_doubles input (section + 4) (triangle n)))
