@@ -32,8 +32,7 @@ use seeded::{nearest_ml, nearest_seeded};
 use turns::turn;
 
 // The nearest integer, halves away from zero; beyond i64 its nearest end, and 0 of a NaN.
-#[unsafe(no_mangle)]
-pub extern "C" fn snowgimmer_round_away(x: f64) -> i64
+pub fn snowgimmer_round_away(x: f64) -> i64
     ensures { result ≡ round_away x }
 {
     round_away(x)
@@ -43,8 +42,7 @@ pub extern "C" fn snowgimmer_round_away(x: f64) -> i64
 // n = 24 on it is the vector that the walk with running centres ends with.
 //
 // Refused: 2 to 9, 15 and 16.
-#[unsafe(no_mangle)]
-pub extern "C" fn snowgimmer_nearest(
+pub fn snowgimmer_nearest(
     weights: &[f64],
     mu: &[f64],
     target: &[f64],
@@ -65,8 +63,7 @@ pub extern "C" fn snowgimmer_nearest(
 // number of nodes, real the vector's distance.
 //
 // Refused: 2 to 13 and 15.
-#[unsafe(no_mangle)]
-pub extern "C" fn snowgimmer_nearest_seeded(
+pub fn snowgimmer_nearest_seeded(
     weights: &[f64],
     mu: &[f64],
     target: &[f64],
@@ -89,8 +86,7 @@ pub extern "C" fn snowgimmer_nearest_seeded(
 // vector's distance.
 //
 // Refused: 2 to 7, 9, 11, 13 and 15.
-#[unsafe(no_mangle)]
-pub extern "C" fn snowgimmer_nearest_ml(
+pub fn snowgimmer_nearest_ml(
     weights: &[f64],
     mu: &[f64],
     target: &[f64],
@@ -111,8 +107,7 @@ pub extern "C" fn snowgimmer_nearest_ml(
 // back, n·n integers each, row by row. first is the number of nodes, real the distance of the vector before mapping.
 //
 // Refused: 2 to 5, 22, 23, 6, 7 (of the given target, then of the transformed one), 9, 11, 13, 15 and 24, in this order.
-#[unsafe(no_mangle)]
-pub extern "C" fn snowgimmer_prepared_nearest_ml(
+pub fn snowgimmer_prepared_nearest_ml(
     weights: &[f64],
     mu: &[f64],
     transform: &[i64],
@@ -134,8 +129,7 @@ pub extern "C" fn snowgimmer_prepared_nearest_ml(
 // lent as three slices, under the name, with its own copy of table and target, in the place of what was there.
 //
 // Refused: 25, 6 of the block's slices, 2 to 9, 15 and 16, in this order. 15 alone changes the block.
-#[unsafe(no_mangle)]
-pub extern "C" fn snowgimmer_nearest_named(
+pub fn snowgimmer_nearest_named(
     reals: &mut [f64],
     integers: &mut [i64],
     counts: &mut [u64],
@@ -162,8 +156,7 @@ pub extern "C" fn snowgimmer_nearest_named(
 // first is the number of all its nodes. If it is over the name is emptied, else it is kept again.
 //
 // Refused: 25, 6 of the block's slices, 26, 6 of out, 27, 15 and 16, in this order. 15 and 16 alone change the block.
-#[unsafe(no_mangle)]
-pub extern "C" fn snowgimmer_pick_up(
+pub fn snowgimmer_pick_up(
     reals: &mut [f64],
     integers: &mut [i64],
     counts: &mut [u64],
@@ -187,8 +180,7 @@ pub extern "C" fn snowgimmer_pick_up(
 //
 // Refused: 28, 6 of the block's slices, 29, 6 of out, 15 and 16, in this order. Of these 15 and 16 alone change block and
 // last.
-#[unsafe(no_mangle)]
-pub extern "C" fn snowgimmer_turn(
+pub fn snowgimmer_turn(
     reals: &mut [f64],
     integers: &mut [i64],
     counts: &mut [u64],
@@ -215,8 +207,7 @@ pub extern "C" fn snowgimmer_turn(
 // that the walk with running centres finds. It needs at most 1 MB of stack.
 //
 // Refused: 2 to 9, 14, 15 and 18.
-#[unsafe(no_mangle)]
-pub extern "C" fn snowgimmer_list(
+pub fn snowgimmer_list(
     weights: &[f64],
     mu: &[f64],
     target: &[f64],
@@ -238,8 +229,7 @@ pub extern "C" fn snowgimmer_list(
 // in first 0 for none, 1 for holds, 2 for fails, 3 for open. Of other distances it is the same formula.
 //
 // Refused: 21.
-#[unsafe(no_mangle)]
-pub extern "C" fn snowgimmer_ratio(
+pub fn snowgimmer_ratio(
     distances: &[f64],
     radius: f64,
     p: u64,
@@ -257,8 +247,7 @@ pub extern "C" fn snowgimmer_ratio(
 // Each coefficient by itself is rounded to out.
 //
 // Refused: 6 and 7.
-#[unsafe(no_mangle)]
-pub extern "C" fn snowgimmer_round(
+pub fn snowgimmer_round(
     coefficients: &[f64],
     out: &mut [i64],
     first: &mut u64,
@@ -274,8 +263,7 @@ pub extern "C" fn snowgimmer_round(
 // Babai's nearest plane goes to out, and t - z to the coefficients.
 //
 // Refused: 2 to 7.
-#[unsafe(no_mangle)]
-pub extern "C" fn snowgimmer_nearest_plane(
+pub fn snowgimmer_nearest_plane(
     weights: &[f64],
     mu: &[f64],
     coefficients: &mut [f64],
@@ -293,8 +281,7 @@ pub extern "C" fn snowgimmer_nearest_plane(
 // The computed distance of a point, in real.
 //
 // Refused: 2 to 7, the point in the output's place, and 11 (total).
-#[unsafe(no_mangle)]
-pub extern "C" fn snowgimmer_distance(
+pub fn snowgimmer_distance(
     weights: &[f64],
     mu: &[f64],
     target: &[f64],
@@ -317,8 +304,7 @@ pub extern "C" fn snowgimmer_distance(
 // a(i) - a(r). The point is read and written, and may have any length.
 //
 // Refused: 19 and 20.
-#[unsafe(no_mangle)]
-pub extern "C" fn snowgimmer_change_reference(
+pub fn snowgimmer_change_reference(
     point: &mut [i64],
     r: usize,
     first: &mut u64,
@@ -336,8 +322,7 @@ pub extern "C" fn snowgimmer_change_reference(
 // index. number and at are the result and first of the call for the entry before; at the start 0, with any at. Hand in the
 // entries that are read and no others, by rising index: n is not known here, so each one counts. 3 is final; a 4 becomes 3
 // at a later entry that is not finite. A number other than 0, 3 and 4 is told again, with at.
-#[unsafe(no_mangle)]
-pub extern "C" fn snowgimmer_check_entry(
+pub fn snowgimmer_check_entry(
     number: u32,
     at: u64,
     index: usize,
