@@ -1,0 +1,21 @@
+-- `search_walk` meets its contract: the walk by n. Assumes nothing.
+use mathlib.Core.Path.{sym}
+use Rattle.definitions.specs.Table.{table}
+use Rattle.definitions.proofs.Answers.{search_small, search_large}
+use Rattle.enumerate.proofs.Answers.{walked_as}
+use Rattle.enumerate.proofs.search_walk.Goals as goal
+
+pub nearest_walk-requires : goal.nearest_walk-requires
+nearest_walk-requires c =
+    let p = c.requires in
+    record { shape = record { shape = record { small = c.if-weights-le-LARGEST_DIMENSION.true; square = p.shape.shape.square; target_length = p.shape.shape.target_length }; output_length = p.shape.output_length }; bounded = p.bounded }
+
+pub returns-then-weights-le-LARGEST_DIMENSION : goal.returns-then-weights-le-LARGEST_DIMENSION
+returns-then-weights-le-LARGEST_DIMENSION c =
+    let a = c.args in
+    walked_as (sym (search_small (table a.weights.now a.mu.now) a.target.now a.radius a.budget c.if-weights-le-LARGEST_DIMENSION.true)) c.nearest_walk.ensures
+
+pub returns : goal.returns
+returns c =
+    let a = c.args in
+    walked_as (sym (search_large (table a.weights.now a.mu.now) a.target.now a.radius a.budget c.if-weights-le-LARGEST_DIMENSION.false)) c.running_walk.ensures
