@@ -12,61 +12,44 @@ use Rattle.checks.proofs.Sequence.{refused, passed}
 use Rattle.enumerate.proofs.Answers.{answered_refused, answered_as}
 use Rattle.seeded.specs.Candidates.{total_checks}
 use Rattle.seeded.proofs.Candidates.{ml_cut}
-use borrow.Author.Rules.{rules}
-use Rattle.seeded.proofs.nearest_ml.Statement.{statement}
-use Rattle.seeded.proofs.nearest_ml.Tie as tie
+use Rattle.seeded.proofs.nearest_ml.Goals as goal
+use Rattle.seeded.proofs.nearest_ml.Goals.{After-ml_check-checked}
 
 -- the checks before the candidate, and those of it
-abbrev first_checks : tie.After-ml-check → List Verdict
+abbrev first_checks : After-ml_check-checked → List Verdict
 first_checks c =
     let a = c.before.before.before.before.before.args in
     search_checks largest_dimension (table a.weights.now a.mu.now) a.target.now a.out.now ++ budget_check a.budget ∷ []
 
-abbrev last_checks : tie.After-ml-check → List Verdict
+abbrev last_checks : After-ml_check-checked → List Verdict
 last_checks c =
     let a = c.before.before.before.before.before.args in
     let t = table a.weights.now a.mu.now in
     total_checks (dimension t) (ml_radius t a.target.now)
 
-returns : tie.Need-returns
-returns c =
-    let at = c.before.before.before in
-    let a = at.before.before.before.before.before.args in
+pub returns-in-Refuse : goal.returns-in-Refuse
+returns-in-Refuse c =
+    let at = (goal.at.returns-in-Refuse c).After-ml_check-checked in
+    let a = at.args in
     let t = table a.weights.now a.mu.now in
-    let e = c.before.checked.given.0.0 in
-    let told = c.before.checked.given.1 in
-    let all = refused at.ml-check.result (first_checks at) at.ml-check.ensures told (last_checks at) ∙ ml_cut t a.target.now a.out.now a.budget in
+    let e = c.in-Refuse.e in
+    let told = c.in-Refuse.is in
+    let all = refused at.ml_check-checked.result (first_checks at) at.ml_check-checked.ensures told (last_checks at) ∙ ml_cut t a.target.now a.out.now a.budget in
     answered_refused e a.out.now (ml_refused t a.target.now a.out.now a.budget (numbered e) (sym all ∙ ap verdict told))
 
-ml-search-requires : tie.Need-ml-search-requires
-ml-search-requires c κs =
-    let at = c.before.before.before in
-    let a = at.before.before.before.before.before.args in
+pub ml_search-requires : goal.ml_search-requires
+ml_search-requires c =
+    let a = c.args in
     let t = table a.weights.now a.mu.now in
-    let p = append_passes (search_checks largest_dimension t a.target.now a.out.now) (budget_check a.budget ∷ []) (sym at.ml-check.ensures ∙ ap verdict c.before.enum_told.given.1) in
+    let p = append_passes (search_checks largest_dimension t a.target.now a.out.now) (budget_check a.budget ∷ []) (sym c.ml_check-checked.ensures ∙ ap verdict c.in_default.is) in
     walk_shaped (search_passed largest_dimension t a.target.now a.out.now p.0) a.budget (budget_passed a.budget (sym (first_alone (budget_check a.budget)) ∙ p.1))
 
-returns-2 : tie.Need-returns-2
-returns-2 c =
-    let ran = c.before in
-    let told = ran.before.before in
-    let at = told.before.before in
-    let a = at.before.before.before.before.before.args in
+pub returns : goal.returns
+returns c =
+    let at = (goal.at.returns c).After-ml_check-checked in
+    let a = at.args in
     let t = table a.weights.now a.mu.now in
-    let checks_are = passed at.ml-check.result (first_checks at) at.ml-check.ensures told.enum_told.given.1 (last_checks at) ∙ ml_cut t a.target.now a.out.now a.budget in
+    let checks_are = passed at.ml_check-checked.result (first_checks at) at.ml_check-checked.ensures c.in_default.is (last_checks at) ∙ ml_cut t a.target.now a.out.now a.budget in
     answered_as
     (ap (λ (v : Verdict). after v (widened_search t a.target.now (ml_radius t a.target.now) a.budget)) checks_are ∙ sym (ml_is t a.target.now a.out.now a.budget))
-    ran.ml-search.ensures
-
-pub nearest-ml-spec : {M : Type 1} → statement M
-nearest-ml-spec =
-    tie.close
-    (tie.spec
-    (λ c κs. search rules)
-    (λ c. search rules)
-    (λ c. search rules)
-    returns
-    (λ c. search rules)
-    ml-search-requires
-    (λ c. search rules)
-    returns-2)
+    c.ml_search.ensures
