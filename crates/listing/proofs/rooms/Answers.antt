@@ -3,13 +3,11 @@ use Prim.Native.Nat.{ℕ, zero, suc, ◌*◌, ◌/◌, ◌<◌}
 use native.Mathlib.Nat.{mul-zero, mul-le-mul, div-mul-le_self, div-lt_iff_lt-mul, le_of_lt, lt_of_le_of_lt}
 use native.Mathlib.Omega.{arith}
 use lib.Dec.{lit<}
-use borrow.Author.Rules.{rules}
 use Rattle.listing.specs.Ready.{Rooms}
-use Rattle.listing.proofs.rooms.Statement.{statement}
-use Rattle.listing.proofs.rooms.Tie as tie
+use Rattle.listing.proofs.rooms.Goals as goal
 
-mul-if1 : tie.Need-overflow-mul-if1
-mul-if1 c = record { fits = lt_of_le_of_lt (mul-le-mul c.requires.few c.requires.small) (lit< tt) }
+pub overflow_mul-places : goal.overflow_mul-places
+overflow_mul-places c = record { fits = lt_of_le_of_lt (mul-le-mul c.requires.few c.requires.small) (lit< tt) }
 
 -- the coordinates don't fit, so n is not 0
 positive : (coordinates n places : ℕ) → coordinates < places * n → 0 < n
@@ -19,11 +17,5 @@ positive coordinates (suc n) places h = omega arith
 quotient : (coordinates n places : ℕ) → coordinates < places * n → Rooms coordinates n places (coordinates / n)
 quotient coordinates n places h = record { within = le_of_lt ((div-lt_iff_lt-mul (positive coordinates n places h)).1 h); fits = div-mul-le_self coordinates n }
 
-div-result : tie.Need-nonzero-div-result
-div-result c = let a = c.before.args in positive a.coordinates a.n a.places c.if1.false
-
-returns-2 : tie.Need-returns-2
-returns-2 c = let a = c.before.args in quotient a.coordinates a.n a.places c.if1.false
-
-pub rooms-spec : {M : Type 1} → statement M
-rooms-spec = tie.close (tie.spec mul-if1 (λ c. search rules) div-result returns-2)
+pub returns : goal.returns
+returns c = let a = c.args in quotient a.coordinates a.n a.places c.if-places-n.false
