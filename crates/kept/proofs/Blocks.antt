@@ -1,13 +1,11 @@
 -- A name's part as the block lends it, and the block when the part is back. Assumes nothing.
-use mathlib.Core.Path.{◌≡◌, refl, sym, ap, ◌∙◌}
+use mathlib.Core.Path.{◌≡◌, sym, ap, ◌∙◌}
 use mathlib.Core.List.{List, ◌++◌, append_assoc}
-use Prim.Native.Nat.{ℕ, ◌+◌, ◌-◌, ◌*◌, ◌≤◌}
+use Prim.Native.Nat.{ℕ, ◌+◌, ◌-◌, ◌*◌}
 use native.Mathlib.Omega.{arith}
-use lib.ListN.{length, take, drop, take-append-drop}
+use lib.ListN.{take, drop, take-append-drop}
 use lib.Seq.{take-add, length-take-le}
 use lib.ListN.{length-drop}
-use lib.IntN.{ℤ}
-use lib.Ieee.{Float}
 use borrow.Rule.Slice.PartMut.{put_mid, Post-is}
 use Rattle.definitions.specs.Block.{Block, replaced, part_of, with_part}
 use Rattle.definitions.proofs.Named.{BlockPassed}

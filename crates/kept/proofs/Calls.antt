@@ -7,10 +7,10 @@ use lib.Ieee.{Float}
 use Rattle.definitions.specs.Table.{Table, largest_dimension}
 use Rattle.definitions.specs.Machine.{Frame}
 use Rattle.definitions.specs.Checks.{Verdict, pass, refuse, first_refusal, handed_on}
-use Rattle.definitions.specs.Calls.{Answer, refused, after, NearestPoint, checks_of_nearest}
-use Rattle.definitions.specs.Kept.{Held, Slot, free, holds, search_for, answer_of, if_over, name_check}
-use Rattle.definitions.specs.Block.{Block, part_slot, written_search, rewritten, part_of, slot_in, with_part, block_checks}
-use Rattle.definitions.specs.Named.{if_passed, checks_of_named, named_checks, nearest_named, block_after_named, pick_up_checks, further_answer, further_slot, pick_up, block_after_pick_up}
+use Rattle.definitions.specs.Calls.{after, checks_of_nearest}
+use Rattle.definitions.specs.Kept.{Held, Slot, search_for, answer_of, if_over, name_check}
+use Rattle.definitions.specs.Block.{Block, written_search, rewritten, part_of, slot_in, with_part, block_checks}
+use Rattle.definitions.specs.Named.{if_passed, named_checks, nearest_named, block_after_named, pick_up_checks, further_answer, further_slot, pick_up, block_after_pick_up}
 use Rattle.definitions.proofs.Verdicts.{or_else, first_append}
 use Rattle.definitions.proofs.Answers.{after_pass, after_refuse}
 use Rattle.definitions.proofs.Named.{named_checks_are, named_is, after_named_is, pick_up_checks_are, pick_up_is, after_pick_up_is, checks_left}
@@ -18,7 +18,6 @@ use Rattle.refusals.specs.Numbers.{numbered}
 use Rattle.refusals.specs.declared.Refusal.{Refusal as CodeRefusal}
 use Rattle.enumerate.specs.declared.NearestAnswer.{NearestAnswer}
 use Rattle.enumerate.specs.declared.NearestAnswer.TheVariants.{Refused}
-use Rattle.enumerate.specs.View.{NearestAnswered}
 use Rattle.enumerate.proofs.Answers.{answered_refused, answered_as}
 use Rattle.kept.specs.Part.{part_checks, PartPickedUp, PartNamed}
 use Rattle.kept.specs.Calls.{KeptAnswered}

@@ -1,16 +1,16 @@
 -- The checks of a name, of the block and of a part, one after another. Assumes nothing.
 use mathlib.Core.Path.{◌≡◌, refl, sym, ap, ◌∙◌}
-use mathlib.Core.Bool.{Bool, true, false, not, ◌&&◌}
+use mathlib.Core.Bool.{Bool, not, ◌&&◌}
 use mathlib.Core.List.{List, [], ◌∷◌}
 use Prim.Native.Nat.{ℕ, ◌+◌, ◌-◌, ◌^◌, ◌≤◌, ◌<◌, min}
-use lib.Dec.{leb, ltb, eqb}
+use lib.Dec.{leb}
 use lib.ListN.{length}
 use lib.IntN.{ℤ}
 use borrow.Author.Tests.{le-leb, lt-leb, lt-ltb, le-ltb, eq-eqb, ne_eqb}
 use Rattle.definitions.specs.Table.{dimension, largest_budget}
 use Rattle.definitions.specs.Refusals.{name_range, name_empty, sum_range, length_mismatch}
 use Rattle.definitions.specs.Checks.{Verdict, pass, refuse, refuse_if, first_refusal, length_check}
-use Rattle.definitions.specs.Kept.{Held, Slot, free, holds, name_check, held_check, output_check, sum_check}
+use Rattle.definitions.specs.Kept.{Held, Slot, free, holds, name_check, sum_check}
 use Rattle.definitions.proofs.Verdicts.{or_else, first_alone, first_cons}
 use Rattle.kept.specs.Part.{part_checks}
 

@@ -1,15 +1,13 @@
 -- What a walk that is over answers: its best, or that nothing is inside the radius. Assumes nothing.
-use mathlib.Core.Path.{◌≡◌, refl, sym, ap, ◌∙◌}
+use mathlib.Core.Path.{◌≡◌, sym, ap, ◌∙◌}
 use mathlib.Core.Bool.{Bool, true, false, cond}
 use mathlib.Core.List.{List}
-use Prim.Native.Nat.{ℕ}
 use lib.ListN.{length, take}
 use lib.IntN.{ℤ}
 use lib.Ieee.{Float}
 use Rattle.definitions.specs.Walk.{ended}
-use Rattle.definitions.specs.Nearest.{Best, no_best, best}
-use Rattle.definitions.specs.Refusals.{outside_radius}
-use Rattle.definitions.specs.Calls.{Answer, found, refused, NearestPoint, end_of_nearest, nearest_output}
+use Rattle.definitions.specs.Nearest.{no_best, best}
+use Rattle.definitions.specs.Calls.{Answer, found, NearestPoint, end_of_nearest, nearest_output}
 use Rattle.definitions.proofs.Answers.{end_nothing, end_point, output_found}
 use Rattle.refusals.specs.declared.Refusal.TheVariants.{OutsideRadius}
 use Rattle.enumerate.specs.declared.NearestAnswer.TheVariants.{Found, Refused}

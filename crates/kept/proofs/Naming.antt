@@ -1,15 +1,14 @@
 -- What the search of a named call answers, and what it leaves of the part. Assumes nothing.
-use mathlib.Core.Path.{◌≡◌, refl, sym, ap, ◌∙◌, subst}
-use mathlib.Core.List.{List, [], ◌++◌}
-use Prim.Native.Nat.{ℕ, ◌-◌, ◌≤◌}
+use mathlib.Core.Path.{◌≡◌, sym, ap, ◌∙◌, subst}
+use mathlib.Core.List.{List}
+use Prim.Native.Nat.{ℕ, ◌-◌}
 use native.Mathlib.Omega.{arith}
-use lib.ListN.{length, take, drop}
+use lib.ListN.{length}
 use lib.IntN.{ℤ}
 use lib.Ieee.{Float}
-use Rattle.definitions.specs.Table.{Table, table, dimension}
-use Rattle.definitions.specs.Machine.{Machine, run_for, begin}
-use Rattle.definitions.specs.Calls.{Answer, NearestPoint}
-use Rattle.definitions.specs.Kept.{Held, search_for, answer_of, if_over}
+use Rattle.definitions.specs.Table.{Table, table}
+use Rattle.definitions.specs.Machine.{Machine, run_for}
+use Rattle.definitions.specs.Kept.{Held, search_for}
 use Rattle.definitions.specs.Block.{Block, written_table, written_walk, written_search}
 use Rattle.definitions.proofs.Machine.{begin_nodes}
 use Rattle.refusals.specs.declared.Refusal.TheVariants.{BudgetExhausted}

@@ -1,22 +1,22 @@
 -- What a pickup of a part answers and leaves, for each of its ends. Assumes nothing.
-use mathlib.Core.Path.{◌≡◌, refl, sym, ap, ◌∙◌, subst}
+use mathlib.Core.Path.{◌≡◌, sym, ap, ◌∙◌}
 use mathlib.Core.Bool.{Bool, true, false, cond}
-use mathlib.Core.List.{List, []}
+use mathlib.Core.List.{List}
 use Prim.Native.Nat.{ℕ, ◌+◌, ◌-◌, ◌^◌, ◌≤◌, ◌<◌, min}
 use native.Mathlib.Omega.{arith}
 use lib.ListN.{length, get_or, take, replicate}
 use lib.Seq.{length-take-le}
 use lib.IntN.{ℤ, pos}
 use lib.Ieee.{Float, nan}
-use Rattle.definitions.specs.Table.{Table, dimension, plus_zero, largest_budget}
-use Rattle.definitions.specs.Machine.{Machine, run_for, outcome_of}
-use Rattle.definitions.specs.Refusals.{Refusal, sum_range, length_mismatch}
+use Rattle.definitions.specs.Table.{dimension, plus_zero, largest_budget}
+use Rattle.definitions.specs.Machine.{run_for}
+use Rattle.definitions.specs.Refusals.{sum_range, length_mismatch}
 use Rattle.definitions.specs.Checks.{Verdict, pass, refuse, first_refusal}
-use Rattle.definitions.specs.Calls.{Answer, refused, after, NearestPoint, end_of_nearest}
+use Rattle.definitions.specs.Calls.{after}
 use Rattle.definitions.specs.Kept.{Held, Slot, free, holds, further, answer_of, if_over}
 use Rattle.definitions.specs.Block.{Block, part_dimension, part_nodes, is_sound, part_table, part_target, part_machine, part_held, part_slot, written_walk, zero_part, rewritten}
 use Rattle.definitions.specs.Named.{if_passed, further_answer, further_slot}
-use Rattle.definitions.proofs.Block.{SoundCounts, sound_counts}
+use Rattle.definitions.proofs.Block.{sound_counts}
 use Rattle.definitions.proofs.Answers.{after_pass, after_refuse}
 use Rattle.refusals.specs.Numbers.{numbered}
 use Rattle.refusals.specs.declared.Refusal.{Refusal as CodeRefusal}

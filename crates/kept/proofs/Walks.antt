@@ -1,16 +1,15 @@
 -- A walk of the code as a machine that is over, or is not. Assumes nothing.
-use mathlib.Core.Path.{◌≡◌, refl, sym, ap, ◌∙◌}
+use mathlib.Core.Path.{◌≡◌, sym, ap, ◌∙◌}
 use mathlib.Core.List.{List, [], ◌∷◌}
-use Prim.Native.Nat.{ℕ, zero, suc, ◌-◌, ◌≤◌}
+use Prim.Native.Nat.{ℕ, suc, ◌-◌, ◌≤◌}
 use native.Mathlib.Omega.{arith}
 use lib.ListN.{length}
 use lib.IntN.{ℤ}
 use lib.Ieee.{Float}
-use Rattle.definitions.specs.Walk.{Walked, ended, exhausted}
-use Rattle.definitions.specs.Nearest.{Best}
+use Rattle.definitions.specs.Walk.{ended}
 use Rattle.definitions.specs.Machine.{Frame, Machine, came, outcome_of}
 use Rattle.definitions.specs.Refusals.{budget_exhausted}
-use Rattle.definitions.specs.Calls.{Answer, refused, NearestPoint, end_of_nearest}
+use Rattle.definitions.specs.Calls.{refused, end_of_nearest}
 use Rattle.definitions.specs.Kept.{if_over}
 use Rattle.definitions.proofs.Machine.{came_over, came_waiting}
 use Rattle.definitions.proofs.Answers.{end_exhausted}

@@ -5,9 +5,8 @@ use mathlib.Core.List.{List}
 use Prim.Native.Nat.{ℕ, suc, ◌+◌, ◌-◌, ◌*◌, ◌≤◌, ◌<◌}
 use native.Mathlib.Omega.{arith}
 use borrow.Author.Tests.{lt-ltb, le-ltb}
-use lib.Dec.{ltb}
-use Rattle.definitions.specs.Block.{Block, counts_of_part, from, is_sound, part_of, slot_in}
-use Rattle.definitions.specs.Turn.{next_name, is_held, held_after, served}
+use Rattle.definitions.specs.Block.{Block, counts_of_part, from, is_sound, part_of}
+use Rattle.definitions.specs.Turn.{next_name, held_after, served}
 use Rattle.definitions.proofs.Turn.{held_zero, held_suc, held_sound}
 use Rattle.turns.specs.Names.{ServedBy}
 

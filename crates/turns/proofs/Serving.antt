@@ -1,5 +1,5 @@
 -- What a slice for the search of a part answers and leaves: the pickup's, or 15 and an empty part; and what that is for its name. Assumes nothing.
-use mathlib.Core.Path.{◌≡◌, refl, sym, ap, ◌∙◌, subst}
+use mathlib.Core.Path.{◌≡◌, sym, ap, ◌∙◌, subst}
 use mathlib.Core.Bool.{Bool, true, false, cond}
 use mathlib.Core.List.{List, ◌++◌}
 use Prim.Native.Nat.{ℕ, ◌+◌, ◌≤◌, ◌<◌}
@@ -10,16 +10,16 @@ use lib.ListN.{length, get_or, take, drop, take-append-drop}
 use lib.Seq.{take-append_seam, length-take-le, get_or-take, get_or-drop}
 use lib.IntN.{ℤ}
 use lib.Ieee.{Float}
-use Rattle.definitions.specs.Table.{dimension, largest_budget}
+use Rattle.definitions.specs.Table.{largest_budget}
 use Rattle.definitions.specs.Refusals.{budget_exhausted}
-use Rattle.definitions.specs.Checks.{Verdict, pass, first_refusal}
-use Rattle.definitions.specs.Calls.{Answer, found, refused, after, NearestPoint, nearest_output}
+use Rattle.definitions.specs.Checks.{Verdict, first_refusal}
+use Rattle.definitions.specs.Calls.{Answer, found, refused, NearestPoint, nearest_output}
 use Rattle.definitions.specs.Kept.{Held, Slot, free, holds}
-use Rattle.definitions.specs.Block.{Block, part_dimension, part_nodes, part_table, part_held, part_slot, zero_part, rewritten, part_of, slot_in, with_part}
+use Rattle.definitions.specs.Block.{Block, part_dimension, part_nodes, part_held, part_slot, rewritten, part_of, slot_in, with_part}
 use Rattle.definitions.specs.Named.{if_passed, further_answer, further_slot}
 use Rattle.definitions.specs.Turn.{passes, slice_answer, slice_slot, slot_dimension, turn_output}
 use Rattle.definitions.proofs.Answers.{after_pass, output_found, output_refused}
-use Rattle.definitions.proofs.Block.{SoundCounts, sound_counts}
+use Rattle.definitions.proofs.Block.{sound_counts}
 use Rattle.definitions.proofs.Turn.{turn_output_found, turn_output_refused}
 use Rattle.refusals.specs.declared.Refusal.TheVariants.{BudgetExhausted}
 use Rattle.enumerate.specs.declared.NearestAnswer.{NearestAnswer}

@@ -1,22 +1,21 @@
 -- What a turn tells and leaves: a refusal by a check, or what serving the name does. Assumes nothing.
-use mathlib.Core.Path.{◌≡◌, refl, sym, ap, ◌∙◌, subst}
+use mathlib.Core.Path.{◌≡◌, sym, ap, ◌∙◌, subst}
 use mathlib.Core.Bool.{Bool, not}
-use mathlib.Core.List.{List, [], ◌∷◌, ◌++◌}
+use mathlib.Core.List.{List, [], ◌∷◌}
 use Prim.Native.Nat.{ℕ}
 use borrow.Author.Tests.{eq-eqb, ne_eqb}
-use lib.Dec.{eqb}
-use lib.ListN.{length, take}
+use lib.ListN.{length}
 use lib.IntN.{ℤ}
 use Rattle.definitions.specs.Refusals.{none_held, length_mismatch}
 use Rattle.definitions.specs.Checks.{Verdict, pass, refuse, refuse_if, first_refusal, length_check}
-use Rattle.definitions.specs.Calls.{Answer, refused, after, NearestPoint}
-use Rattle.definitions.specs.Kept.{Slot, name_check}
+use Rattle.definitions.specs.Calls.{Answer, NearestPoint}
+use Rattle.definitions.specs.Kept.{Slot}
 use Rattle.definitions.specs.Block.{Block, rewritten, part_of, slot_in, with_part, block_checks}
 use Rattle.definitions.specs.Named.{if_passed}
-use Rattle.definitions.specs.Turn.{served, slice_check, served_check, slice_answer, slice_slot, slot_dimension, checks_of_turn, turn_checks, turn, turn_output}
+use Rattle.definitions.specs.Turn.{served, slice_check, served_check, slice_answer, slice_slot, slot_dimension, checks_of_turn, turn_checks, turn_output}
 use Rattle.definitions.proofs.Verdicts.{or_else, first_append, first_passes, first_refuses, first_alone}
 use Rattle.definitions.proofs.Answers.{after_pass, after_refuse}
-use Rattle.definitions.proofs.Named.{BlockPassed, block_passed}
+use Rattle.definitions.proofs.Named.{BlockPassed}
 use Rattle.definitions.proofs.Turn.{after_held, turn_checks_are, turn_name_is, turn_n_is, turn_answer_is, after_turn_is, last_after_turn_is, turn_output_refused}
 use Rattle.refusals.specs.Numbers.{numbered}
 use Rattle.refusals.specs.declared.Refusal.{Refusal as CodeRefusal}
