@@ -7,30 +7,16 @@ use Rattle.theorems.specs.Promises.{RoundPromises}
 use Rattle.theorems.proofs.Promises.{round_promises}
 use Rattle.snowgimmer.specs.Reports.{of_verdict}
 use Rattle.snowgimmer.proofs.ToldAs.{verdict_told}
-use borrow.Author.Rules.{rules}
-use Rattle.snowgimmer.proofs.snowgimmer_round.Statement.{statement}
-use Rattle.snowgimmer.proofs.snowgimmer_round.Tie as tie
+use Rattle.snowgimmer.proofs.snowgimmer_round.Goals as goal
 
-returns : tie.Need-returns
+pub returns : goal.returns
 returns c =
-    let reported = c.before.before.before.before in
-    let at = reported.before.before in
-    let a = at.before.before.before.args in
-    let answered = at.round.ensures in
-    let tells = c.stored.ensures ∙ reported.verdict-report.ensures ∙ ap of_verdict answered.tells in
+    let a = c.args in
+    let answered = c.round-answer.ensures in
+    let tells = c.stored.ensures ∙ c.verdict_report.ensures ∙ ap of_verdict answered.tells in
     record {
       tells = tells;
       told_as = verdict_told tells;
       writes = answered.writes;
       promises = subst (λ (o : List ℤ). RoundPromises a.coefficients.now a.out.now (C.round a.coefficients.now a.out.now) o) (sym answered.writes) (round_promises a.coefficients.now a.out.now);
     }
-
-pub snowgimmer-round-spec : {M : Type 1} → statement M
-snowgimmer-round-spec =
-    tie.close
-    (tie.spec
-    (λ c κs. search rules)
-    (λ c κs. search rules)
-    (λ c κs. search rules)
-    (λ c. search rules)
-    returns)

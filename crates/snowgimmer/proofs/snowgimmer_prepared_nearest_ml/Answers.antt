@@ -10,22 +10,16 @@ use Rattle.theorems.proofs.Prepared.{prepared_promises}
 use Rattle.snowgimmer.specs.Reports.{of_nearest}
 use Rattle.snowgimmer.proofs.DistanceAgrees.{prepared_agrees}
 use Rattle.snowgimmer.proofs.ToldAs.{answer_told}
-use borrow.Author.Rules.{rules}
-use Rattle.snowgimmer.proofs.snowgimmer_prepared_nearest_ml.Statement.{statement}
-use Rattle.snowgimmer.proofs.snowgimmer_prepared_nearest_ml.Tie as tie
+use Rattle.snowgimmer.proofs.snowgimmer_prepared_nearest_ml.Goals as goal
 
-returns : tie.Need-returns
+pub returns : goal.returns
 returns c =
-    let reported = c.before.before.before.before in
-    let at = reported.before.before in
-    let known = at.before.before in
-    let s = known.before.before.before in
-    let a = s.args in
+    let a = c.args in
     let t = table a.weights.now a.mu.now in
-    let answered = at.prepared-nearest-ml.ensures in
-    let doubles = doubles_in t a.target.now known.before.before.shared-slice-known.given known.before.shared-slice-known2.given known.shared-slice-known3.given in
+    let answered = c.prepared_nearest_ml-answer.ensures in
+    let doubles = doubles_in t a.target.now c.shared_slice_known-1.given c.shared_slice_known-2-1.given c.shared_slice_known-3-1.given in
     let promises = subst (λ (o : List ℤ). PreparedPromises t a.transform.now a.inverse.now a.target.now a.out.now a.budget (prepared_nearest_ml t a.transform.now a.inverse.now a.target.now a.out.now a.budget) o) (sym answered.writes) (prepared_promises t a.transform.now a.inverse.now a.target.now a.out.now a.budget doubles) in
-    let tells = c.stored.ensures ∙ reported.nearest-report.ensures _ ∙ ap of_nearest answered.tells in
+    let tells = c.stored.ensures ∙ c.nearest_report.ensures _ ∙ ap of_nearest answered.tells in
     record {
       tells = tells;
       told_as = answer_told of_nearest tells (λ x. refl) (λ e. refl);
@@ -33,13 +27,3 @@ returns c =
       promises = promises;
       distance_agrees = prepared_agrees t a.transform.now a.inverse.now a.target.now a.out.now a.budget promises;
     }
-
-pub snowgimmer-prepared-nearest-ml-spec : {M : Type 1} → statement M
-snowgimmer-prepared-nearest-ml-spec =
-    tie.close
-    (tie.spec
-    (λ c κs. search rules)
-    (λ c κs. search rules)
-    (λ c κs. search rules)
-    (λ c. search rules)
-    returns)

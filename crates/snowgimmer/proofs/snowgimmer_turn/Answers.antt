@@ -11,9 +11,7 @@ use Rattle.parts.specs.Parts.{block}
 use Rattle.snowgimmer.specs.Reports.{of_nearest}
 use Rattle.snowgimmer.proofs.Slices.{held_in}
 use Rattle.snowgimmer.proofs.ToldAs.{answer_told}
-use borrow.Author.Rules.{rules}
-use Rattle.snowgimmer.proofs.snowgimmer_turn.Statement.{statement}
-use Rattle.snowgimmer.proofs.snowgimmer_turn.Tie as tie
+use Rattle.snowgimmer.proofs.snowgimmer_turn.Goals as goal
 
 -- the promises, by what the slices hold
 promised : (b : Block) (last : ℕ) (out : List ℤ) (slice : ℕ) {out' : List ℤ} {b' : Block} {last' : ℕ} → out' ≡ turn_output (turn b last out slice).answer out → b' ≡ block_after_turn b last out slice → last' ≡ last_after_turn b last out slice → TurnPromises b last out slice (turn b last out slice) out' b' last'
@@ -21,15 +19,12 @@ promised b last out slice {out'} {b'} p q r =
     subst (λ (m : ℕ). TurnPromises b last out slice (turn b last out slice) out' b' m) (sym r)
     (held_in (λ (o : List ℤ) (x : Block). TurnPromises b last out slice (turn b last out slice) o x (last_after_turn b last out slice)) p q (turn_promises b last out slice))
 
-returns : tie.Need-returns
+pub returns : goal.returns
 returns c =
-    let reported = c.before.before.before.before in
-    let at = reported.before.before.before.before.before.before.before in
-    let s = at.before.before.before.before.before.before.before.before in
-    let a = s.args in
+    let a = c.args in
     let b = block a.reals.now a.integers.now a.counts.now in
-    let done = at.turn.ensures in
-    let tells = c.stored.ensures ∙ reported.nearest-report.ensures _ ∙ ap (λ (t : Turn). of_nearest t.answer) done.tells in
+    let done = c.turn-told.ensures in
+    let tells = c.stored.ensures ∙ c.nearest_report.ensures _ ∙ ap (λ (t : Turn). of_nearest t.answer) done.tells in
     record {
       tells_name = ap (λ (t : Turn). t.name) done.tells;
       tells_n = ap (λ (t : Turn). t.n) done.tells;
@@ -40,16 +35,3 @@ returns c =
       leaves_last = done.last_is;
       promises = promised b a.last.now a.out.now a.slice done.writes done.block_is done.last_is;
     }
-
-pub snowgimmer-turn-spec : {M : Type 1} → statement M
-snowgimmer-turn-spec =
-    tie.close
-    (tie.spec
-    (λ c κs. search rules)
-    (λ c κs. search rules)
-    (λ c κs. search rules)
-    (λ c. search rules)
-    (λ c. search rules)
-    (λ c. search rules)
-    (λ c. search rules)
-    returns)

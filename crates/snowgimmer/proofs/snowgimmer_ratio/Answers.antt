@@ -5,18 +5,13 @@ use Rattle.definitions.specs.Ratio.{holds, fails, «open», none}
 use Rattle.theorems.proofs.RatioCalls.{ratio_call_lem}
 use Rattle.snowgimmer.specs.Reports.{of_ratio}
 use Rattle.snowgimmer.proofs.RatioNumbers.{verdict_told, index_told}
-use borrow.Author.Rules.{rules}
-use Rattle.snowgimmer.proofs.snowgimmer_ratio.Statement.{statement}
-use Rattle.snowgimmer.proofs.snowgimmer_ratio.Tie as tie
+use Rattle.snowgimmer.proofs.snowgimmer_ratio.Goals as goal
 
-returns : tie.Need-returns
+pub returns : goal.returns
 returns c =
-    let reported = c.before.before.before.before in
-    let at = reported.before in
-    let s = at.before.before in
-    let a = s.args in
-    let told = c.stored.ensures ∙ reported.ratio-report.ensures ∙ ap of_ratio at.ratio-of.ensures in
-    let promised = ratio_call_lem a.p a.q a.distances.now a.radius (held s.well-formed.1.0.1) in
+    let a = c.args in
+    let told = c.stored.ensures ∙ c.ratio_report.ensures ∙ ap of_ratio c.ratio_of-answer.ensures in
+    let promised = ratio_call_lem a.p a.q a.distances.now a.radius (held c.well_formed.1.0.1) in
     record {
       tells = told;
       promises = promised;
@@ -31,6 +26,3 @@ returns c =
       gives_0 = index_told told promised.refuses 0 promised.gives_0;
       gives_1 = index_told told promised.refuses 1 promised.gives_1;
     }
-
-pub snowgimmer-ratio-spec : {M : Type 1} → statement M
-snowgimmer-ratio-spec = tie.close (tie.spec (λ c κs. search rules) (λ c κs. search rules) (λ c κs. search rules) returns)
