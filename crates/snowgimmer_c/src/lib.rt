@@ -32,7 +32,9 @@ pub extern "C" fn snowgimmer_nearest(
 ) -> u32
     ensures { NearestTold (table_at weights mu) (at_entry target) out.old radius budget (told_at result first second real) out.new }
 {
-    snowgimmer::snowgimmer_nearest(weights, mu, target, out, radius, budget, first, second, real)
+    snowgimmer::snowgimmer_nearest(
+        weights, mu, target, out, radius, budget, first, second, real,
+    )
 }
 
 #[unsafe(no_mangle)]
@@ -50,7 +52,9 @@ pub extern "C" fn snowgimmer_nearest_seeded(
 ) -> u32
     ensures { SeededTold (table_at weights mu) (at_entry target) out.old (at_entry candidate) radius budget (told_at result first second real) out.new }
 {
-    snowgimmer::snowgimmer_nearest_seeded(weights, mu, target, out, candidate, radius, budget, first, second, real)
+    snowgimmer::snowgimmer_nearest_seeded(
+        weights, mu, target, out, candidate, radius, budget, first, second, real,
+    )
 }
 
 #[unsafe(no_mangle)]
@@ -84,7 +88,9 @@ pub extern "C" fn snowgimmer_prepared_nearest_ml(
 ) -> u32
     ensures { PreparedTold (table_at weights mu) (at_entry transform) (at_entry inverse) (at_entry target) out.old budget (told_at result first second real) out.new }
 {
-    snowgimmer::snowgimmer_prepared_nearest_ml(weights, mu, transform, inverse, target, out, budget, first, second, real)
+    snowgimmer::snowgimmer_prepared_nearest_ml(
+        weights, mu, transform, inverse, target, out, budget, first, second, real,
+    )
 }
 
 #[unsafe(no_mangle)]
@@ -105,7 +111,10 @@ pub extern "C" fn snowgimmer_nearest_named(
 ) -> u32
     ensures { NamedTold (block reals.old integers.old counts.old) name (table_at weights mu) (at_entry target) out.old radius budget (told_at result first second real) out.new (block reals.new integers.new counts.new) }
 {
-    snowgimmer::snowgimmer_nearest_named(reals, integers, counts, name, weights, mu, target, out, radius, budget, first, second, real)
+    snowgimmer::snowgimmer_nearest_named(
+        reals, integers, counts, name, weights, mu, target, out, radius, budget, first, second,
+        real,
+    )
 }
 
 #[unsafe(no_mangle)]
@@ -122,7 +131,9 @@ pub extern "C" fn snowgimmer_pick_up(
 ) -> u32
     ensures { PickUpTold (block reals.old integers.old counts.old) name out.old budget (told_at result first second real) out.new (block reals.new integers.new counts.new) }
 {
-    snowgimmer::snowgimmer_pick_up(reals, integers, counts, name, out, budget, first, second, real)
+    snowgimmer::snowgimmer_pick_up(
+        reals, integers, counts, name, out, budget, first, second, real,
+    )
 }
 
 #[unsafe(no_mangle)]
@@ -141,7 +152,9 @@ pub extern "C" fn snowgimmer_turn(
 ) -> u32
     ensures { TurnTold (block reals.old integers.old counts.old) last.old out.old slice name.new n.new (told_at result first second real) out.new (block reals.new integers.new counts.new) last.new }
 {
-    snowgimmer::snowgimmer_turn(reals, integers, counts, last, out, slice, name, n, first, second, real)
+    snowgimmer::snowgimmer_turn(
+        reals, integers, counts, last, out, slice, name, n, first, second, real,
+    )
 }
 
 #[unsafe(no_mangle)]
@@ -159,7 +172,9 @@ pub extern "C" fn snowgimmer_list(
 ) -> u32
     ensures { ListTold (table_at weights mu) (at_entry target) distances.old points.old radius budget (told_at result first second real) distances.new points.new }
 {
-    snowgimmer::snowgimmer_list(weights, mu, target, distances, points, radius, budget, first, second, real)
+    snowgimmer::snowgimmer_list(
+        weights, mu, target, distances, points, radius, budget, first, second, real,
+    )
 }
 
 #[unsafe(no_mangle)]
