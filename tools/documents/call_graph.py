@@ -30,12 +30,21 @@ def blocks(opening, code, start=0, stop=sys.maxsize):
         yield found, end - 1
 
 
+def imported(use):
+    """The paths that a use line names, which may stand in braces."""
+    head, brace, rest = use.partition("{")
+    if not brace:
+        return [use.strip()]
+    return [head.strip() + path for part in rest.rpartition("}")[0].split(",") if part.strip() for path in imported(part)]
+
+
 def read_source(file):
     """A file's code, with blanks for comments, contracts and strings, and what it imports, by the last name."""
     crate, _, *modules = file.relative_to(CRATES).with_suffix("").parts
     module = "".join(f"{part}::" for part in (crate, *modules) if part not in ("lib", "main"))
     code = HIDDEN.sub(lambda found: re.sub(r"[^\n]", " ", found[0]), file.read_text())
-    uses = [use.replace("crate::", f"{crate}::") for use in re.findall(r"^ *(?:pub )?use (.*);", code, re.M)]
+    uses = [path for use in re.findall(r"^ *(?:pub )?use ([^;]*);", code, re.M) for path in imported(use)]
+    uses = [use.replace("crate::", f"{crate}::") for use in uses]
     return Source(file.relative_to(library.REPOSITORY), module, code, {use.split("::")[-1]: use for use in uses})
 
 

@@ -4,11 +4,15 @@
 //! The folder is ORACLE_SOURCE, or ../shared/docs/src seen from the repository's root. Behind `enumerate.rs` goes
 //! `src/appended.rs`: constructors from a table and from matrices, and functions that call what is private there.
 //!
-//! For the run tests as Rust it writes the crate `printing` as one file, since Rust does not look for its module in a `.rt`
-//! file, and the crate `refusals` without its contracts, each of whose clauses is a line.
+//! For the run tests as Rust it writes them, the crate `refusals` and the crate `printing`, as one file, since Rust does not
+//! look for its module in a `.rt` file: all without what the proofs are for, which is a line each time.
 
 use std::path::{Path, PathBuf};
 use std::{env, fs};
+
+/// Those that an example of the same name includes.
+const RUN_TESTS: [&str; 7] =
+    ["children_test", "enumerate_test", "kept_test", "listing_test", "prepared_test", "seeded_test", "turns_test"];
 
 fn read(path: &Path) -> String {
     println!("cargo:rerun-if-changed={}", path.display());
@@ -34,13 +38,13 @@ fn item(text: &str, first: &str, last: &str) -> String {
     panic!("lib.rs has no end of `{first}`");
 }
 
-/// The code without its contracts.
-fn without_contracts(text: &str) -> String {
-    let clause = |line: &&str| {
+/// The code of a file without the lines that are for its proofs: those of contracts, what they import, and the tactic.
+fn code(path: &Path) -> String {
+    let proof = |line: &&str| {
         let line = line.trim_start();
-        ["ghost use ", "requires {", "ensures {"].iter().any(|start| line.starts_with(start))
+        ["ghost use ", "requires ", "ensures ", "#![tactic("].iter().any(|start| line.starts_with(start))
     };
-    text.lines().filter(|line| !clause(line)).map(|line| format!("{line}\n")).collect()
+    read(path).lines().filter(|line| !proof(line)).map(|line| format!("{line}\n")).collect()
 }
 
 fn main() {
@@ -68,10 +72,12 @@ fn main() {
     }
     fs::write(out.join("root.rs"), root).unwrap();
 
-    let printing = project.join("../../crates/printing/src");
-    let values = format!("pub mod values {{\n{}}}", read(&printing.join("values.rt")));
-    let text = read(&printing.join("lib.rt")).replacen("pub mod values;", &values, 1);
+    let crates = project.join("../../crates");
+    let values = format!("pub mod values {{\n{}}}", code(&crates.join("printing/src/values.rt")));
+    let text = code(&crates.join("printing/src/lib.rt")).replacen("pub mod values;", &values, 1);
     fs::write(out.join("printing.rs"), text).unwrap();
-    let refusals = read(&project.join("../../crates/refusals/src/lib.rt"));
-    fs::write(out.join("refusals.rs"), without_contracts(&refusals)).unwrap();
+    fs::write(out.join("refusals.rs"), code(&crates.join("refusals/src/lib.rt"))).unwrap();
+    for name in RUN_TESTS {
+        fs::write(out.join(format!("{name}.rs")), code(&crates.join(name).join("src/main.rt"))).unwrap();
+    }
 }

@@ -67,4 +67,4 @@ mod children {
     }
 }
 
-include!("../../../crates/children_test/src/main.rt");
+include!(concat!(env!("OUT_DIR"), "/children_test.rs"));

@@ -32,4 +32,4 @@ mod enumerate {
     }
 }
 
-include!("../../../crates/enumerate_test/src/main.rt");
+include!(concat!(env!("OUT_DIR"), "/enumerate_test.rs"));

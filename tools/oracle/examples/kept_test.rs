@@ -15,4 +15,4 @@ mod enumerate {
 #[path = "common/kept.rs"]
 mod kept;
 
-include!("../../../crates/kept_test/src/main.rt");
+include!(concat!(env!("OUT_DIR"), "/kept_test.rs"));

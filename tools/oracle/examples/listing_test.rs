@@ -55,4 +55,4 @@ mod listing {
     }
 }
 
-include!("../../../crates/listing_test/src/main.rt");
+include!(concat!(env!("OUT_DIR"), "/listing_test.rs"));

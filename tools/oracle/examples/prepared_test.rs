@@ -85,4 +85,4 @@ mod prepared {
     }
 }
 
-include!("../../../crates/prepared_test/src/main.rt");
+include!(concat!(env!("OUT_DIR"), "/prepared_test.rs"));

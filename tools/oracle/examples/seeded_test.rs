@@ -74,4 +74,4 @@ mod seeded {
     }
 }
 
-include!("../../../crates/seeded_test/src/main.rt");
+include!(concat!(env!("OUT_DIR"), "/seeded_test.rs"));

@@ -63,4 +63,4 @@ mod turns {
     }
 }
 
-include!("../../../crates/turns_test/src/main.rt");
+include!(concat!(env!("OUT_DIR"), "/turns_test.rs"));
