@@ -1,6 +1,6 @@
 //! Links libsnowgimmer.a. The variable SNOWGIMMER_LIB names the folder that holds it, or the file; a relative path is
-//! taken from the folder in which cargo was started. Without the variable it is the repository's, which `rt staticlib
-//! snowgimmer` writes to target/staticlib.
+//! taken from the folder in which cargo was started. Without the variable it is the repository's, which `tools/build
+//! library` writes to target/staticlib.
 
 use std::env;
 use std::fs::{self, File};
@@ -9,7 +9,7 @@ use std::path::{Path, PathBuf};
 
 const NAME: &str = "libsnowgimmer.a";
 const ADVICE: &str = "let the variable SNOWGIMMER_LIB name the folder that holds libsnowgimmer.a, or the file itself; \
-    in the repository `rt staticlib snowgimmer` makes it";
+    in the repository `tools/build library` makes it";
 
 fn main() {
     println!("cargo::rerun-if-env-changed=SNOWGIMMER_LIB");

@@ -40,20 +40,22 @@ def run(command, hint):
         raise Missing(f"{' '.join(map(str, command))} failed:\n{done.stdout.strip()}")
 
 
-def built(product, *command):
-    """The path of a product of rt, which is made where it is missing."""
+def built(product, name):
+    """The path of a product of rt, which is made where it is missing, under its name for tools/build."""
     if not product.exists():
         print(f"building {product.relative_to(REPOSITORY)} (some minutes)", file=sys.stderr)
-        run(["rt", *command], "it is the toolchain's command, see README.md")
+        if shutil.which("rt") is None:
+            raise Missing("rt is not installed: it is the toolchain's command, see README.md")
+        run([REPOSITORY / "tools" / "build", name], "it is a command of this repository")
     return product
 
 
 def archive():
-    return built(ARCHIVE, "staticlib", "snowgimmer")
+    return built(ARCHIVE, "library")
 
 
 def program():
-    return built(PROGRAM, "check", "job")
+    return built(PROGRAM, "job")
 
 
 def load():

@@ -1,5 +1,7 @@
-"""Builds what a command needs of the product, if it is not there."""
+"""Builds the program and the static library. A command that needs one has it built if it is not there."""
 
+import collections
+import os
 import pathlib
 import shutil
 import subprocess
@@ -8,8 +10,13 @@ import tempfile
 from toolkit import running, streams
 
 ROOT = pathlib.Path(__file__).resolve().parents[2]
-# The command that builds each product, which proves it first.
-COMMANDS = {"target/bin/job": "rt check job", "target/staticlib/libsnowgimmer.a": "rt staticlib snowgimmer"}
+# A product is what a command of rt, which proves it first, writes in the folder of a crate; `name` is that of tools/build.
+# `rt run` also runs the program that it built, here on an empty input.
+Source = collections.namedtuple("Source", "name crate command written")
+PRODUCTS = {
+    "target/bin/job": Source("job", "crates/job", "rt run", "out/job"),
+    "target/staticlib/libsnowgimmer.a": Source("library", "crates/snowgimmer_c", "rt lib", "out/libsnowgimmer_c.a"),
+}
 
 
 class NotBuilt(Exception):
@@ -35,6 +42,37 @@ def waited(process, clock):
                 clock.clear()
 
 
+def put(product):
+    """Puts what rt wrote in the product's place, in one step; whether there is such."""
+    source, path = PRODUCTS[product], ROOT / product
+    written = ROOT / source.crate / source.written
+    if not written.is_file():
+        return False
+    path.parent.mkdir(parents=True, exist_ok=True)
+    made = path.with_name(f".{path.name}.new-{os.getpid()}")
+    try:
+        shutil.copy(written, made)
+        os.replace(made, path)
+    finally:
+        made.unlink(missing_ok=True)
+    return True
+
+
+def make(product, log, clock=None):
+    """Proves and builds a product, whether it is there or not; what rt says goes to the log. None, or how rt ended if the
+    product was not made."""
+    source = PRODUCTS[product]
+    with running.temporary_folder() as temporary:
+        options = {"cwd": ROOT / source.crate, "env": running.environment(temporary), "stdin": subprocess.DEVNULL}
+        with running.started(source.command.split(), stdout=log, stderr=log, **options) as process:
+            status = waited(process, clock) if clock else process.wait()
+    return None if status == 0 and put(product) else streams.ending(status)
+
+
+def shown_command(product):
+    return f"`{PRODUCTS[product].command}` in {PRODUCTS[product].crate}"
+
+
 def build(name, product, shown=20):
     """The product's path, when it is there. `name` is the command's, for what it says. If the building fails, as many
     of its last lines are told; with 0 all of them."""
@@ -44,15 +82,13 @@ def build(name, product, shown=20):
     reason = lacking(product)
     if reason:
         raise NotBuilt(reason)
-    command = COMMANDS[product]
-    streams.say(f"{name}: {product} is not built: running `{command}`, which proves it first; that takes some minutes")
-    with tempfile.TemporaryFile() as log, running.temporary_folder() as temporary:
-        options = {"cwd": ROOT, "env": running.environment(temporary), "stdin": subprocess.DEVNULL}
-        with running.started(command.split(), stdout=log, stderr=log, **options) as process:
-            status = waited(process, streams.Clock(f"{name}: building"))
+    command = shown_command(product)
+    streams.say(f"{name}: {product} is not built: running {command}, which proves it first; that takes some minutes")
+    with tempfile.TemporaryFile() as log:
+        ending = make(product, log, streams.Clock(f"{name}: building"))
         log.seek(0)
         lines = log.read().decode(errors="replace").splitlines()
-    if status != 0 or not path.is_file():
+    if ending:
         said = "".join(f"\n    {line}" for line in lines[-shown:])
-        raise NotBuilt(f"{product} is not built: `{command}` ended with {streams.ending(status)}{said}")
+        raise NotBuilt(f"{product} is not built: {command} ended with {ending}{said}")
     return path

@@ -165,7 +165,7 @@ fn a_missing_program() {
     for words in [&["--part", "jobs"][..], &[]] {
         let output = command(&folder().join("missing"), words);
         assert_eq!((output.status.code(), output.stdout.len()), (Some(2), 0));
-        assert!(String::from_utf8(output.stderr).unwrap().contains("`rt check job`"));
+        assert!(String::from_utf8(output.stderr).unwrap().contains("`tools/build job`"));
     }
 }
 

@@ -54,7 +54,7 @@ impl Program {
         let built = || Path::new(env!("CARGO_MANIFEST_DIR")).join("../../target/bin/job");
         let path = env::var_os("SNOWGIMMER_JOB").filter(|name| !name.is_empty()).map_or_else(built, PathBuf::from);
         if !path.is_file() {
-            let advice = "`rt check job` in the repository's root builds it, or SNOWGIMMER_JOB names another file";
+            let advice = "`tools/build job` in the repository's root builds it, or SNOWGIMMER_JOB names another file";
             return Err(format!("the job program {} is not there: {advice}", path.display()));
         }
         Ok(Self::new(&path, SECONDS))
