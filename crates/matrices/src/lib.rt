@@ -6,7 +6,7 @@ ghost use Rattle.std.specs.Prelude.{◌≡◌, ◌+◌, ◌≤◌, ◌<◌, pos,
 ghost use Rattle.definitions.specs.Checks.{first_refusal, refuse_at_first, count_from};
 ghost use Rattle.definitions.specs.Refusals.{matrix_range};
 ghost use Rattle.definitions.specs.Prepared.{each_below, same_integer, product_element, identity_element, is_identity, transformed_sum, transformed_target, element_fault, inverse_check, matrix_checks};
-ghost use Rattle.definitions.specs.Lent.{at_entry, at_exit};
+ghost use Rattle.definitions.specs.Lent.{at_entry};
 ghost use Rattle.refusals.specs.Numbers.{verdict};
 ghost use Rattle.matrices.specs.Shapes.{Factors, TargetShaped, PointShaped};
 ghost use Rattle.matrices.specs.Mapped.{Mapped};

@@ -5,7 +5,7 @@ ghost use Rattle.std.specs.Prelude.{◌≡◌, ◌+◌, ◌*◌, ◌^◌, ◌≤
 ghost use Rattle.definitions.specs.Table.{largest_dimension};
 ghost use Rattle.definitions.specs.JobLayout.{items_at, doubles, mu_rows, job};
 ghost use Rattle.definitions.specs.JobLayout as D;
-ghost use Rattle.definitions.specs.Lent.{at_entry, at_exit};
+ghost use Rattle.definitions.specs.Lent.{at_entry};
 ghost use Rattle.reading.specs.View.{within, section_of, next_section, next_settings, EndsWithin, SectionIs, section_end, layout_by_last, settings_in, SettingsWithin, JobBytes, LayoutIs, job_at, settings_read, JobIs};
 ghost use Rattle.reading.specs.Parts.{NumberWithin, NumberIs, ItemsWithin, RowsWithin, ArrayHolds};
 

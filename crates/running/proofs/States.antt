@@ -8,6 +8,7 @@ use lib.IntN.{ℤ}
 use lib.ListN.{length, take}
 use lib.Ieee.{Float}
 use Rattle.lists.specs.Places.{places}
+use Rattle.lists.proofs.Tuples.{fourth, fifth, sixth, seventh, eighth}
 use Rattle.definitions.specs.Table.{Table, dimension, largest_searched}
 use Rattle.definitions.specs.Walk.{Walked, ended, exhausted, Leaf, Descent, walk}
 use Rattle.definitions.specs.Running.{Beside, beside, with_running, leaf_beside, running_centers}
@@ -18,6 +19,10 @@ use Rattle.search.proofs.NearestLeaf.{shown_held, shown_exhausted}
 use Rattle.running.specs.Centers.{running_of}
 use Rattle.running.specs.Call.{search_of, ConsideredBy, State, state, view, Call, size, prefix, walk_of, Ready, Preserved, Returned}
 use Rattle.running.specs.declared.Standing.{Standing}
+
+-- what a call of `run` has come to, by its result and what it leaves of its parameters
+abbrev pub last_state : {A B X : Type 0} → Bool → Standing → A × (B × (List ℤ × (List ℤ × (List Float × (List Float × (List ℤ × (ℕ × (Bool × X)))))))) → State
+last_state listing r p = state (carried listing (search_of p.1.1.0 (fourth p) r) (eighth p) (eighth p.1)) (fifth p) (sixth p) (seventh p)
 
 -- a search with a node more and another point under trial
 abbrev pub with_point : Search → List ℤ → Search

@@ -4,7 +4,7 @@
 
 ghost use Rattle.std.specs.Prelude.{◌≡◌, ◌+◌, ◌<◌, ◌≤◌, [], length};
 ghost use Rattle.definitions.specs.JobText as J;
-ghost use Rattle.definitions.specs.Lent.{at_entry, at_exit};
+ghost use Rattle.definitions.specs.Lent.{at_entry};
 ghost use Rattle.writing.specs.Sizes.{decimal_size, signed_decimal_size, hexadecimal_size, point_size, group_size, refusal_size};
 ghost use Rattle.writing.specs.Written.{Written};
 ghost use Rattle.writing.specs.Digits.{DecimalDigits};
