@@ -73,11 +73,18 @@ def environment(temporary, **variables):
     return dict(os.environ, TMPDIR=str(temporary), **variables)
 
 
-def run(words, folder, seconds=None, **variables):
-    """The return code of a command and what it said on both streams; TimeoutExpired if it takes longer. Its temporary
-    files are in a folder of their own, since the prover leaves some if a signal ends it."""
+def run_apart(words, folder, seconds=None, errors=subprocess.PIPE):
+    """The return code of a command and what it said on standard output and on standard error, as bytes; TimeoutExpired
+    if it takes longer. Its temporary files are in a folder of their own, since the prover leaves some if a signal ends
+    it."""
     with temporary_folder() as temporary:
-        streams_of = {"stdin": subprocess.DEVNULL, "stdout": subprocess.PIPE, "stderr": subprocess.STDOUT}
-        with started(words, cwd=folder, env=environment(temporary, **variables), **streams_of) as process:
-            said = process.communicate(timeout=seconds)[0]
-    return process.returncode, said.decode(errors="replace")
+        streams_of = {"stdin": subprocess.DEVNULL, "stdout": subprocess.PIPE, "stderr": errors}
+        with started(words, cwd=folder, env=environment(temporary), **streams_of) as process:
+            said = process.communicate(timeout=seconds)
+    return process.returncode, *said
+
+
+def run(words, folder, seconds=None):
+    """The same with what it said on both streams as one text."""
+    status, said, _ = run_apart(words, folder, seconds, subprocess.STDOUT)
+    return status, said.decode(errors="replace")
