@@ -12,7 +12,7 @@ import library
 CRATES = library.REPOSITORY / "crates"
 HIDDEN = re.compile(r'//[^\n]*|^\s*(?:ghost use|requires|ensures)\b[^\n]*|"(?:\\.|[^"\\\n])*"', re.M)
 INNER = re.compile(r"[(\[{][^()\[\]{}]*[)\]}]")
-OUTSIDE = ("std", "io", "libc", "f64")  # their functions are those of no crate
+OUTSIDE = ("std", "io", "libc", "f64", "i64", "u64", "usize", "u32", "u8")  # their functions are those of no crate
 
 Source = collections.namedtuple("Source", "file module code imports")
 Function = collections.namedtuple("Function", "path source exported parameters start end loops")
@@ -86,6 +86,9 @@ class Graph:
         paths = [prefix + name, source.imports.get(first, first) + colons + rest]
         paths = [re.sub(r"\b[A-Z]\w*::", "", start + path) for path in paths for start in (source.module, "")]
         found = named if dot else [path for path in paths if path in named][:1]
+        if len(found) > 1:  # a method: that of a crate which the file names
+            own = [source.module, *source.imports.values()]
+            found = [path for path in found if path.split("::")[0] in {use.split("::")[0] for use in own}]
         if len(found) > 1 or named and not found and prefix.split("::")[0] not in OUTSIDE:
             raise ValueError(f"{where}: {prefix}{name} is which of {', '.join(named)}?")
         return found[0] if found else None

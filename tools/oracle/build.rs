@@ -38,11 +38,11 @@ fn item(text: &str, first: &str, last: &str) -> String {
     panic!("lib.rs has no end of `{first}`");
 }
 
-/// The code of a file without the lines that are for its proofs: those of contracts, what they import, and the tactic.
+/// The code of a file without the lines that are for its proofs: those of contracts and ghost members, what they import, and the tactic.
 fn code(path: &Path) -> String {
     let proof = |line: &&str| {
         let line = line.trim_start();
-        ["ghost use ", "requires ", "ensures ", "#![tactic("].iter().any(|start| line.starts_with(start))
+        ["ghost ", "requires ", "ensures ", "#![tactic("].iter().any(|start| line.starts_with(start))
     };
     read(path).lines().filter(|line| !proof(line)).map(|line| format!("{line}\n")).collect()
 }

@@ -11,7 +11,7 @@ ghost use Rattle.babai.specs.Answers.{RoundAnswered, PlaneAnswered, PlaneWritten
 use checks::{plane_check, round_check};
 use definitions::LARGEST_DIMENSION;
 use distance::center;
-use refusals::Verdict;
+use refusals::Refusal;
 use rounding::{round_away, to_double};
 
 // Writes `round_away` of each coefficient to out.
@@ -19,10 +19,8 @@ fn round_all(coefficients: &[f64], out: &mut [i64])
     requires { length coefficients.now ≡ length out.old }
     ensures { out.new ≡ map round_away (at_entry coefficients) }
 {
-    let mut i = 0;
-    while i < out.len() {
+    for i in 0..out.len() {
         out[i] = round_away(coefficients[i]);
-        i += 1;
     }
 }
 
@@ -30,15 +28,13 @@ fn round_all(coefficients: &[f64], out: &mut [i64])
 //
 // Refused: 6, out not as long as coefficients (their length, out's); 7, a coefficient not finite (first index).
 // A refusal leaves out as it was.
-pub fn round(coefficients: &[f64], out: &mut [i64]) -> Verdict
+#[tactic(auto, using(definitions::proofs::Passed::round_passed), unfolding(definitions::specs::Calls::round, definitions::specs::Calls::round_output))]
+pub fn round(coefficients: &[f64], out: &mut [i64]) -> Result<(), Refusal>
     ensures { RoundAnswered (at_entry coefficients) out.old result out.new }
 {
-    let checked = round_check(coefficients, out);
-    if let Verdict::Refuse(_) = checked {
-        return checked;
-    }
+    round_check(coefficients, out)?;
     round_all(coefficients, out);
-    Verdict::Pass
+    Ok(())
 }
 
 // The levels from n - 1 down to 0: the integers go to out, what is left to the coefficients.
@@ -47,15 +43,12 @@ pub fn plane_levels(weights: &[f64], mu: &[f64], coefficients: &mut [f64], out: 
     ensures { PlaneWritten (table_at weights mu) coefficients.old coefficients.new out.new }
 {
     let n = weights.len();
-    let mut depth = n;
-    while depth > 0 {
-        let i = depth - 1;
+    for i in (0..n).rev() {
         let start = coefficients[i];
         let sum = center(mu, coefficients, n, i, start);
         let chosen = round_away(sum);
         out[i] = chosen;
         coefficients[i] = start - to_double(chosen);
-        depth = i;
     }
 }
 
@@ -64,18 +57,16 @@ pub fn plane_levels(weights: &[f64], mu: &[f64], coefficients: &mut [f64], out: 
 //
 // Refused: 2 to 5, the table; 6, coefficients or out not n long (n, the coefficients' length); 7, a coefficient
 // not finite (first index). A refusal leaves both slices as they were.
+#[tactic(auto, using(definitions::proofs::Passed::plane_passed), unfolding(definitions::specs::Calls::plane, definitions::specs::Calls::plane_output, definitions::specs::Calls::plane_coefficients))]
 pub fn nearest_plane(
     weights: &[f64],
     mu: &[f64],
     coefficients: &mut [f64],
     out: &mut [i64],
-) -> Verdict
+) -> Result<(), Refusal>
     ensures { PlaneAnswered (table_at weights mu) coefficients.old out.old result coefficients.new out.new }
 {
-    let checked = plane_check(LARGEST_DIMENSION, weights, mu, coefficients, out);
-    if let Verdict::Refuse(_) = checked {
-        return checked;
-    }
+    plane_check(LARGEST_DIMENSION, weights, mu, coefficients, out)?;
     plane_levels(weights, mu, coefficients, out);
-    Verdict::Pass
+    Ok(())
 }

@@ -1,31 +1,27 @@
--- Checks of the code one after the other: the verdict of two is that of their lists joined. Assumes nothing.
+-- Checks of the code one after the other, each with a `?`: the verdict is that of their lists joined. Assumes nothing.
 use mathlib.Core.Path.{◌≡◌, ap, sym, ◌∙◌}
 use mathlib.Core.List.{List, [], ◌∷◌, ◌++◌}
-use Rattle.definitions.specs.Checks.{first_refusal}
-use Rattle.definitions.specs.Checks.{Verdict as Check}
-use Rattle.definitions.proofs.Verdicts.{or_else, first_append, first_cons, first_alone}
-use Rattle.refusals.specs.Numbers.{verdict}
+use Rattle.std.specs.Prelude.{⊤, Result}
+use Rattle.std.specs.Result.{IsErr, IsErrAnd}
+use Rattle.definitions.specs.Checks.{Verdict, pass, refuse, first_refusal}
+use Rattle.definitions.proofs.Verdicts.{first_append, first_alone}
+use Rattle.refusals.specs.Numbers.{verdict, numbered}
 use Rattle.refusals.specs.declared.Refusal.{Refusal}
-use Rattle.refusals.specs.declared.Verdict.{Verdict}
-use Rattle.refusals.specs.declared.Verdict.TheVariants.{Pass, Refuse}
+use Rattle.refusals.proofs.Early.{handed_up}
 
 -- a single check as a list
-pub alone : {v d : Check} → v ≡ d → v ≡ first_refusal (d ∷ [])
+pub alone : {v d : Verdict} → v ≡ d → v ≡ first_refusal (d ∷ [])
 alone {v} {d} says = says ∙ sym (first_alone d)
 
--- what `or_else` says of two checks, or lists of them
-pub joined : (vs ws : List Check) {v w r : Check} → r ≡ first_refusal (v ∷ w ∷ []) → v ≡ first_refusal vs → w ≡ first_refusal ws → r ≡ first_refusal (vs ++ ws)
-joined vs ws {v} {w} says p q =
-    says
-    ∙ first_cons v (w ∷ [])
-    ∙ ap (or_else v) (first_alone w ∙ q)
-    ∙ ap (λ (x : Check). or_else x (first_refusal ws)) p
-    ∙ sym (first_append vs ws)
+module _ (vs : List Verdict) where
+  -- a refusal decides
+  pub decided : (e : Refusal) → refuse (numbered e) ≡ first_refusal vs → (ws : List Verdict) → refuse (numbered e) ≡ first_refusal (vs ++ ws)
+  decided e says ws = says ∙ sym (first_append vs ws ∙ simp (sym says))
 
--- what an early return says: a refusal decides, and after a pass the rest does
-module _ (v : Verdict) (vs : List Check) (says : verdict v ≡ first_refusal vs) where
-  pub refused : {e : Refusal} → v ≡ Refuse e → (ws : List Check) → verdict v ≡ first_refusal (vs ++ ws)
-  refused told ws = says ∙ sym (first_append vs ws ∙ simp (sym says, told))
+  -- and the exit of a `?` gives it
+  pub refused : (e : Refusal) (r : Result ⊤ Refusal) → IsErr r × IsErrAnd r (λ y. y ≡ e) → refuse (numbered e) ≡ first_refusal vs → (ws : List Verdict) → verdict r ≡ first_refusal (vs ++ ws)
+  refused e r up says ws = ap verdict (handed_up r up.1) ∙ decided e says ws
 
-  pub passed : v ≡ Pass → (ws : List Check) → first_refusal ws ≡ first_refusal (vs ++ ws)
-  passed told ws = sym (first_append vs ws ∙ simp (sym says, told))
+  -- after a pass the rest does
+  pub passed : pass ≡ first_refusal vs → (ws : List Verdict) → first_refusal ws ≡ first_refusal (vs ++ ws)
+  passed says ws = sym (first_append vs ws ∙ simp (sym says))

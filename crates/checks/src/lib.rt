@@ -1,6 +1,8 @@
 // The checks of the library's calls, in each call's order: refusals 2 to 14 and 30. A sequence gives the first refusal
-// of its checks, number and values included, or a pass. It stops early only where a later check can't be made before.
-#![tactic(auto)]
+// of its checks, number and values included, or a pass.
+//
+// In the proofs a sequence is computed, and joined sequences are taken apart by `first_append`.
+#![tactic(auto, using(definitions::proofs::Verdicts::first_append), unfolding(definitions::specs::Checks::first_refusal))]
 
 ghost use Rattle.std.specs.Prelude.{◌≡◌, [], ◌∷◌, ◌++◌, ◌≤◌};
 ghost use Rattle.definitions.specs.Table.{largest_dimension};
@@ -16,7 +18,7 @@ pub mod triangle;
 
 use definitions::LARGEST_SEARCHED;
 use distance::total;
-use refusals::Verdict;
+use refusals::Refusal;
 use rounding::{max, to_double};
 use single::{
     budget_check, candidate_distance_check, candidate_length_check, candidate_outside_check,
@@ -28,70 +30,56 @@ use triangle::triangle_check;
 // 2^-52.
 const EPSILON: f64 = 2.220446049250313e-16;
 
-// The first verdict if it refuses, else the second.
-fn or_else(first: Verdict, second: Verdict) -> Verdict
-    ensures { verdict result ≡ first_refusal (verdict first ∷ verdict second ∷ []) }
-{
-    match first {
-        Verdict::Refuse(_) => return first,
-        Verdict::Pass => return second,
-    }
-}
-
 // 2 to 5, for at most `largest` weights. The entries are looked at once their number is known.
-pub fn table_check(largest: usize, weights: &[f64], mu: &[f64]) -> Verdict
+#[tactic(auto, using(definitions::proofs::Verdicts::first_append), unfolding(definitions::specs::Checks::first_refusal, definitions::specs::Checks::table_checks))]
+pub fn table_check(largest: usize, weights: &[f64], mu: &[f64]) -> Result<(), Refusal>
     requires { largest ≤ 64 }
     ensures { verdict result ≡ first_refusal (table_checks largest (table_at weights mu)) }
 {
-    let size = table_size_check(largest, weights, mu);
-    if let Verdict::Refuse(_) = size {
-        return size;
-    }
-    or_else(triangle_check(mu, weights.len()), weight_check(weights))
+    table_size_check(largest, weights, mu)?;
+    triangle_check(mu, weights.len())?;
+    weight_check(weights)
 }
 
 // 6 of the target and of the output, which must be n long, then 7.
-pub fn target_output_check(n: usize, target: &[f64], out: &[i64]) -> Verdict
+pub fn target_output_check(n: usize, target: &[f64], out: &[i64]) -> Result<(), Refusal>
     ensures { verdict result ≡ first_refusal (C.target_checks n (at_entry target) (at_entry out)) }
 {
-    let target_length = length_check(n, target.len());
-    let output_length = length_check(n, out.len());
-    let values = or_else(output_length, target_check(target));
-    or_else(target_length, values)
+    length_check(n, target.len())?;
+    length_check(n, out.len())?;
+    target_check(target)
 }
 
 // 7 of a target whose length is right, then 9.
-pub fn target_budget_check(target: &[f64], budget: u64) -> Verdict
+pub fn target_budget_check(target: &[f64], budget: u64) -> Result<(), Refusal>
     ensures { verdict result ≡ first_refusal (target_check (at_entry target) ∷ budget_check budget ∷ []) }
 {
-    let values = target_check(target);
-    or_else(values, budget_check(budget))
+    target_check(target)?;
+    budget_check(budget)
 }
 
 // 2 to 5, 6 of the target and of the output, then 7: what `nearest`, `nearest_seeded` and `nearest_ml` check first, and
 // all that a distance's arguments are checked for.
+#[tactic(auto, using(definitions::proofs::Verdicts::first_append), unfolding(definitions::specs::Checks::first_refusal, definitions::specs::Calls::search_checks))]
 pub fn search_check(
     largest: usize,
     weights: &[f64],
     mu: &[f64],
     target: &[f64],
     out: &[i64],
-) -> Verdict
+) -> Result<(), Refusal>
     requires { largest ≤ 64 }
     ensures { verdict result ≡ first_refusal (C.search_checks largest (table_at weights mu) (at_entry target) (at_entry out)) }
 {
-    let table = table_check(largest, weights, mu);
-    or_else(table, target_output_check(weights.len(), target, out))
+    table_check(largest, weights, mu)?;
+    target_output_check(weights.len(), target, out)
 }
 
 // The radius that a call hands on once check 8 has passed: its own, but plus zero where that is minus zero.
 pub fn handed_on(radius: f64) -> f64
     ensures { result ≡ handed_on radius }
 {
-    if radius == 0.0 {
-        return 0.0;
-    }
-    radius
+    if radius == 0.0 { 0.0 } else { radius }
 }
 
 // The checks of `nearest`: 2 to 9.
@@ -103,40 +91,41 @@ pub fn nearest_check(
     out: &[i64],
     radius: f64,
     budget: u64,
-) -> Verdict
+) -> Result<(), Refusal>
     requires { largest ≤ 64 }
     ensures { verdict result ≡ first_refusal (C.checks_of_nearest largest (table_at weights mu) (at_entry target) (at_entry out) radius budget) }
 {
-    let search = search_check(largest, weights, mu, target, out);
-    or_else(search, or_else(radius_check(radius), budget_check(budget)))
+    search_check(largest, weights, mu, target, out)?;
+    radius_check(radius)?;
+    budget_check(budget)
 }
 
 // The checks of `epochs` for the whole call: 2 to 5 and 30. The count is multiplied by n once the table has passed.
+#[tactic(auto, using(definitions::proofs::Verdicts::first_append, definitions::proofs::Passed::table_checked), unfolding(definitions::specs::Checks::first_refusal))]
 pub fn epochs_check(
     weights: &[f64],
     mu: &[f64],
     targets: &[f64],
     count: usize,
     out: &[i64],
-) -> Verdict
+) -> Result<(), Refusal>
     ensures { verdict result ≡ first_refusal (checks_of_epochs (table_at weights mu) (at_entry targets) count (at_entry out)) }
 {
-    let table = table_check(LARGEST_SEARCHED, weights, mu);
-    if let Verdict::Refuse(_) = table {
-        return table;
-    }
+    table_check(LARGEST_SEARCHED, weights, mu)?;
     epochs_size_check(weights.len(), count, targets.len(), out.len())
 }
 
 // The checks of `epochs` for one target, whose length is right: 7 to 9.
-pub fn epoch_check(target: &[f64], radius: f64, budget: u64) -> Verdict
+pub fn epoch_check(target: &[f64], radius: f64, budget: u64) -> Result<(), Refusal>
     ensures { verdict result ≡ first_refusal (checks_of_epoch (at_entry target) radius budget) }
 {
-    let values = target_check(target);
-    or_else(values, or_else(radius_check(radius), budget_check(budget)))
+    target_check(target)?;
+    radius_check(radius)?;
+    budget_check(budget)
 }
 
 // The checks of `list`: 2 to 9 and 14. The places are multiplied by n once the table has passed.
+#[tactic(auto, using(definitions::proofs::Verdicts::first_append, definitions::proofs::Passed::table_checked), unfolding(definitions::specs::Checks::first_refusal))]
 pub fn list_check(
     largest: usize,
     weights: &[f64],
@@ -146,18 +135,17 @@ pub fn list_check(
     points: &[i64],
     radius: f64,
     budget: u64,
-) -> Verdict
+) -> Result<(), Refusal>
     requires { largest ≤ 64 }
     ensures { verdict result ≡ first_refusal (C.checks_of_list largest (table_at weights mu) (at_entry target) (at_entry distances) (at_entry points) radius budget) }
 {
-    let table = table_check(largest, weights, mu);
-    if let Verdict::Refuse(_) = table {
-        return table;
-    }
-    let length = length_check(weights.len(), target.len());
-    let values = or_else(target_check(target), radius_check(radius));
-    let size = list_size_check(weights.len(), distances.len(), points.len());
-    or_else(length, or_else(values, or_else(budget_check(budget), size)))
+    let n = weights.len();
+    table_check(largest, weights, mu)?;
+    length_check(n, target.len())?;
+    target_check(target)?;
+    radius_check(radius)?;
+    budget_check(budget)?;
+    list_size_check(n, distances.len(), points.len())
 }
 
 // The widened radius, radius + (2^-52·max(radius, 1))·4n, each operation rounded in this order.
@@ -170,22 +158,22 @@ pub fn widened_radius(n: usize, radius: f64) -> f64
 }
 
 // 11 and 13 of a candidate's total that is itself the radius: the last checks of `nearest_ml`.
-pub fn total_check(n: usize, sum: f64) -> Verdict
+pub fn total_check(n: usize, sum: f64) -> Result<(), Refusal>
     requires { n ≤ 64 }
     ensures { verdict result ≡ first_refusal (candidate_distance_check sum ∷ widened_radius_check (widened n sum) ∷ []) }
 {
-    let wide = widened_radius_check(widened_radius(n, sum));
-    or_else(candidate_distance_check(sum), wide)
+    candidate_distance_check(sum)?;
+    widened_radius_check(widened_radius(n, sum))
 }
 
 // 11 to 13: a candidate's total, the radius against it, and the radius widened.
-fn candidate_check(n: usize, radius: f64, sum: f64) -> Verdict
+fn candidate_check(n: usize, radius: f64, sum: f64) -> Result<(), Refusal>
     requires { n ≤ 64 }
     ensures { verdict result ≡ first_refusal (candidate_distance_check sum ∷ candidate_outside_check radius sum ∷ widened_radius_check (widened n radius) ∷ []) }
 {
-    let finite = candidate_distance_check(sum);
-    let wide = widened_radius_check(widened_radius(n, radius));
-    or_else(finite, or_else(candidate_outside_check(radius, sum), wide))
+    candidate_distance_check(sum)?;
+    candidate_outside_check(radius, sum)?;
+    widened_radius_check(widened_radius(n, radius))
 }
 
 // The checks of `nearest_seeded`: 2 to 13. The candidate's distance is computed once its length is known.
@@ -198,18 +186,15 @@ pub fn seeded_check(
     candidate: &[i64],
     radius: f64,
     budget: u64,
-) -> Verdict
+) -> Result<(), Refusal>
     requires { largest ≤ largest_dimension }
     ensures { verdict result ≡ first_refusal (C.checks_of_seeded largest (table_at weights mu) (at_entry target) (at_entry out) (at_entry candidate) radius budget) }
 {
-    let call = nearest_check(largest, weights, mu, target, out, radius, budget);
-    let length = candidate_length_check(weights.len(), candidate.len());
-    let before = or_else(call, length);
-    if let Verdict::Refuse(_) = before {
-        return before;
-    }
+    let n = weights.len();
+    nearest_check(largest, weights, mu, target, out, radius, budget)?;
+    candidate_length_check(n, candidate.len())?;
     let sum = total(mu, weights, target, candidate);
-    candidate_check(weights.len(), handed_on(radius), sum)
+    candidate_check(n, handed_on(radius), sum)
 }
 
 // The checks of `nearest_ml` before its candidate is made: 2 to 7 and 9.
@@ -220,20 +205,20 @@ pub fn ml_check(
     target: &[f64],
     out: &[i64],
     budget: u64,
-) -> Verdict
+) -> Result<(), Refusal>
     requires { largest ≤ 64 }
     ensures { verdict result ≡ first_refusal (C.search_checks largest (table_at weights mu) (at_entry target) (at_entry out) ++ budget_check budget ∷ []) }
 {
-    let search = search_check(largest, weights, mu, target, out);
-    or_else(search, budget_check(budget))
+    search_check(largest, weights, mu, target, out)?;
+    budget_check(budget)
 }
 
 // The checks of `round`: 6, then 7 without the limit.
-pub fn round_check(coefficients: &[f64], out: &[i64]) -> Verdict
+pub fn round_check(coefficients: &[f64], out: &[i64]) -> Result<(), Refusal>
     ensures { verdict result ≡ first_refusal (C.checks_of_round (at_entry coefficients) (at_entry out)) }
 {
-    let length = length_check(coefficients.len(), out.len());
-    or_else(length, finite_check(coefficients))
+    length_check(coefficients.len(), out.len())?;
+    finite_check(coefficients)
 }
 
 // The checks of `nearest_plane`: 2 to 5, 6, then 7 without the limit.
@@ -243,11 +228,11 @@ pub fn plane_check(
     mu: &[f64],
     coefficients: &[f64],
     out: &[i64],
-) -> Verdict
+) -> Result<(), Refusal>
     requires { largest ≤ 64 }
     ensures { verdict result ≡ first_refusal (C.checks_of_plane largest (table_at weights mu) (at_entry coefficients) (at_entry out)) }
 {
-    let table = table_check(largest, weights, mu);
-    let lengths = plane_length_check(weights.len(), coefficients.len(), out.len());
-    or_else(table, or_else(lengths, finite_check(coefficients)))
+    table_check(largest, weights, mu)?;
+    plane_length_check(weights.len(), coefficients.len(), out.len())?;
+    finite_check(coefficients)
 }

@@ -54,16 +54,13 @@ fn large_table_sizes() {
 }
 
 // The verdict after each of four entries.
-fn entries_fed(a: f64, b: f64, c: f64, d: f64) {
+fn entries_fed(values: [f64; 4]) {
     word(b"feed:");
-    let s = feed(Triangle::Clean, 10, a);
-    verdict(triangle_verdict(s));
-    let t = feed(s, 11, b);
-    verdict(triangle_verdict(t));
-    let u = feed(t, 12, c);
-    verdict(triangle_verdict(u));
-    let v = feed(u, 13, d);
-    verdict(triangle_verdict(v));
+    let mut s = Triangle::Clean;
+    for (k, x) in values.iter().enumerate() {
+        s = feed(s, 10 + k, *x);
+        verdict(triangle_verdict(s));
+    }
     newline();
 }
 
@@ -348,10 +345,10 @@ fn list_sizes() {
 fn main() {
     table_sizes();
     large_table_sizes();
-    entries_fed(1.0, BEYOND, -BEYOND, 0.0);
-    entries_fed(LARGEST, nan(), infinity(), BEYOND);
-    entries_fed(nan(), infinity(), LARGEST, 0.0);
-    entries_fed(LIMIT, -LIMIT, BEYOND, -infinity());
+    entries_fed([1.0, BEYOND, -BEYOND, 0.0]);
+    entries_fed([LARGEST, nan(), infinity(), BEYOND]);
+    entries_fed([nan(), infinity(), LARGEST, 0.0]);
+    entries_fed([LIMIT, -LIMIT, BEYOND, -infinity()]);
     triangles();
     weights();
     tables();

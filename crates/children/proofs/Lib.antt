@@ -1,5 +1,4 @@
 -- Laws that the proofs of the functions, and callers, cite.
 pub mod Terms
-pub mod Candidates
 pub mod Outcomes
 pub mod Steps

@@ -1,4 +1,6 @@
 -- The two steps of `next`: the first in a direction that is open, the second in the other one. Assumes nothing.
+use Rattle.std.proofs.Common.{None, Some}
+use Rattle.std.specs.Int.{from_bool}
 use mathlib.Core.Path.{◌≡◌, refl, ap, sym, ◌∙◌}
 use mathlib.Core.Bool.{Bool, true, false, not, ◌&&◌, ◌||◌, beq, cond}
 use Prim.Native.Nat.{ℕ, zero, suc, ◌+◌, ◌%◌, ◌≤◌, ◌<◌, ◌^◌}
@@ -13,8 +15,6 @@ use Rattle.definitions.specs.Zigzag.{Zigzag, Next, child, none, passes_test, aft
 use Rattle.definitions.proofs.Zigzags.{passes_is, upward_is, moved, step_done, step_child, step_closes}
 use Rattle.children.specs.declared.Children.{Children}
 use Rattle.children.specs.declared.Trial.{Trial}
-use Rattle.children.specs.declared.Child.TheVariants.{At, End}
-use Rattle.children.specs.declared.Tested.TheVariants.{Passed, Failed}
 use Rattle.children.specs.View.{zigzag, at_step, goes_upward, is_done, FirstStep, trial_of, child_of, tested_of}
 use Rattle.children.proofs.Outcomes.{passed_of, failed_of}
 
@@ -31,6 +31,17 @@ open_is false p n = refl
 pub not_not : (b : Bool) → not (not b) ≡ b
 not_not true = refl
 not_not false = refl
+
+-- the step that is tried first, and its direction
+pub moved_on : (s : ℕ) (skipped : Bool) → s + from_bool skipped ≡ cond skipped (s + 1) s
+moved_on s true = refl
+moved_on s false = omega arith
+
+pub turned : (up skipped : Bool) → not (beq up skipped) ≡ cond skipped (not up) up
+turned true true = refl
+turned true false = refl
+turned false true = refl
+turned false false = refl
 
 -- of two directions of which one is closed, the other is open
 other_open : (up p n : Bool) → cond up p n ≡ true → p && n ≡ false → cond (not up) p n ≡ false
@@ -99,7 +110,7 @@ next_is g = refl
 next_tries : (g : Zigzag) (b : Bool) → g.emitted_nearest ≡ true → both_done g ≡ b → next g ≡ cond b (none g) (second_step (one_step g))
 next_tries g b e f = next_is g ∙ ap (λ (t : Bool). cond t (cond (both_done g) (none g) (second_step (one_step g))) (child g.nearest (after_nearest g))) e ∙ ap (λ (t : Bool). cond t (none g) (second_step (one_step g))) f
 
-pub next_ends : (self : Children) → self.emitted_nearest ≡ true → self.positive_done && self.negative_done ≡ true → End ≡ child_of (next (zigzag self))
+pub next_ends : (self : Children) → self.emitted_nearest ≡ true → self.positive_done && self.negative_done ≡ true → None ≡ child_of (next (zigzag self))
 next_ends self e f = ap child_of (sym (next_tries (zigzag self) true e f))
 
 -- ---- a step
@@ -113,10 +124,10 @@ module _ (self : Children) (step : ℕ) (p n up : Bool) (direction : up ≡ goes
   is_upward : up ≡ upward here
   is_upward = direction ∙ sym (upward_is here)
 
-  step_finds : cond up p n ≡ false → (r : Trial) → Passed r ≡ tested_of (zigzag self) (moved here up) → one_step here ≡ child (moved here up) (at_step self (step + 1) p n)
+  step_finds : cond up p n ≡ false → (r : Trial) → Some r ≡ tested_of (zigzag self) (moved here up) → one_step here ≡ child (moved here up) (at_step self (step + 1) p n)
   step_finds not_done r e = step_child here up is_upward not_done (tested_here (passed_of (zigzag self) (moved here up) r e).0) ∙ ap (λ (s : ℕ). child (moved here up) (at_step self s p n)) (sym (add-one step))
 
-  step_fails : cond up p n ≡ false → Failed ≡ tested_of (zigzag self) (moved here up) → one_step here ≡ none (at_step self (step + 1) (up || p) (not up || n))
+  step_fails : cond up p n ≡ false → None ≡ tested_of (zigzag self) (moved here up) → one_step here ≡ none (at_step self (step + 1) (up || p) (not up || n))
   step_fails not_done e = step_closes here up is_upward not_done (tested_here (failed_of (zigzag self) (moved here up) e)) ∙ ap (λ (s : ℕ). none (at_step self s (up || p) (not up || n))) (sym (add-one step))
 
   step_passes_over : cond up p n ≡ true → one_step here ≡ none (at_step self (step + 1) p n)
@@ -139,10 +150,10 @@ module _ (self : Children) (step : ℕ) (up : Bool) (direction : up ≡ goes_upw
   abbrev first : Zigzag
   first = at_step self step self.positive_done self.negative_done
 
-  pub first_finds : (r : Trial) → Passed r ≡ tested_of (zigzag self) (moved first up) → second_step (one_step first) ≡ child (moved first up) (at_step self (step + 1) self.positive_done self.negative_done)
+  pub first_finds : (r : Trial) → Some r ≡ tested_of (zigzag self) (moved first up) → second_step (one_step first) ≡ child (moved first up) (at_step self (step + 1) self.positive_done self.negative_done)
   first_finds r e = ap second_step (step_finds self step self.positive_done self.negative_done up direction not_done r e) ∙ second_child (moved first up) (at_step self (step + 1) self.positive_done self.negative_done)
 
-  pub first_fails : Failed ≡ tested_of (zigzag self) (moved first up) → second_step (none (at_step self (step + 1) (not (not up) || self.positive_done) (not up || self.negative_done))) ≡ second_step (one_step first)
+  pub first_fails : None ≡ tested_of (zigzag self) (moved first up) → second_step (none (at_step self (step + 1) (not (not up) || self.positive_done) (not up || self.negative_done))) ≡ second_step (one_step first)
   first_fails e =
       ap (λ (b : Bool). second_step (none (at_step self (step + 1) (b || self.positive_done) (not up || self.negative_done)))) (not_not up)
       ∙ ap second_step (sym (step_fails self step self.positive_done self.negative_done up direction not_done e))
@@ -158,7 +169,7 @@ module _ (self : Children) (step : ℕ) (up : Bool) (direction : up ≡ goes_upw
   abbrev last : Zigzag
   last = at_step self step P N
 
-  pub last_closed : is_done self up ≡ true → End ≡ child_of (second_step (none last))
+  pub last_closed : is_done self up ≡ true → None ≡ child_of (second_step (none last))
   last_closed e = ap child_of (sym (second_ends last (both_is up self.positive_done self.negative_done ∙ e)))
 
   module _ (not_done : is_done self up ≡ false) where
@@ -168,10 +179,10 @@ module _ (self : Children) (step : ℕ) (up : Bool) (direction : up ≡ goes_upw
     open_here : cond up P N ≡ false
     open_here = open_is up self.positive_done self.negative_done ∙ not_done
 
-    pub last_fails : Failed ≡ tested_of (zigzag self) (moved last up) → End ≡ child_of (second_step (none last))
+    pub last_fails : None ≡ tested_of (zigzag self) (moved last up) → None ≡ child_of (second_step (none last))
     last_fails e = ap child_of (sym (second_step_lem ∙ step_fails self step P N up direction open_here e))
 
-    pub last_finds : (r : Trial) → Passed r ≡ tested_of (zigzag self) (moved last up) → second_step (none last) ≡ child (moved last up) (at_step self (step + 1) P N)
+    pub last_finds : (r : Trial) → Some r ≡ tested_of (zigzag self) (moved last up) → second_step (none last) ≡ child (moved last up) (at_step self (step + 1) P N)
     last_finds r e = second_step_lem ∙ step_finds self step P N up direction open_here r e
 
 -- ---- from the first open step to `next`
@@ -203,5 +214,5 @@ module _ (self : Children) (up : Bool) (direction : up ≡ goes_upward self self
       }
 
 -- ---- an answer of the code, whose nearest integer and flag are written m and b
-pub answer : (self : Children) (step : ℕ) (positive_done negative_done : Bool) {r : Trial} {m z : ℤ} {b : Bool} → r ≡ trial_of self.weight self.center z → m ≡ self.nearest → b ≡ true → At r (record { center = self.center; remaining = self.remaining; weight = self.weight; nearest = m; step = step; emitted_nearest = b; positive_done = positive_done; negative_done = negative_done }) ≡ child_of (child z (at_step self step positive_done negative_done))
+pub answer : (self : Children) (step : ℕ) (positive_done negative_done : Bool) {r : Trial} {m z : ℤ} {b : Bool} → r ≡ trial_of self.weight self.center z → m ≡ self.nearest → b ≡ true → Some (r, record { center = self.center; remaining = self.remaining; weight = self.weight; nearest = m; step = step; emitted_nearest = b; positive_done = positive_done; negative_done = negative_done }) ≡ child_of (child z (at_step self step positive_done negative_done))
 answer self step positive_done negative_done e f g = rw (e, f, g)

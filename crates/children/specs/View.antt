@@ -1,5 +1,5 @@
 -- What the code's values stand for, and what a step asks for. Definitions only.
-use Rattle.std.specs.Prelude.{◌≡◌, ℕ, ◌%◌, ◌^◌, ◌<◌, ◌≤◌, Bool, true, false, ◌&&◌, cond, eqb, ℤ, Float}
+use Rattle.std.specs.Prelude.{◌≡◌, ℕ, ◌%◌, ◌^◌, ◌<◌, ◌≤◌, Bool, true, false, ◌&&◌, cond, eqb, ℤ, Float, Option, None, Some}
 use Rattle.std.specs.Bool.{beq}
 use Rattle.std.specs.Float.Ieee.{le}
 use Rattle.rounding.specs.Integers.{to_double, is_i64}
@@ -7,14 +7,6 @@ use Rattle.definitions.specs.Distance as D
 use Rattle.definitions.specs.Zigzag.{Zigzag, Start, open_level, no_children, Next, child, none, passes_test}
 use Rattle.children.specs.declared.Children.{Children}
 use Rattle.children.specs.declared.Trial.{Trial}
-use Rattle.children.specs.declared.Level.{Level}
-use Rattle.children.specs.declared.Level.TheVariants.{Open, Closed}
-use Rattle.children.specs.declared.Child.{Child}
-use Rattle.children.specs.declared.Child.TheVariants.{At, End}
-use Rattle.children.specs.declared.Moved.{Moved}
-use Rattle.children.specs.declared.Moved.TheVariants.{In, Out}
-use Rattle.children.specs.declared.Tested.{Tested}
-use Rattle.children.specs.declared.Tested.TheVariants.{Passed, Failed}
 
 -- a generator of the code, and back below
 abbrev pub zigzag : Children → Zigzag
@@ -57,20 +49,20 @@ generator_of g = record {
 abbrev pub trial_of : Float → Float → ℤ → Trial
 trial_of w c z = record { z = z; value = to_double z; term = D.term w c z }
 
-abbrev pub level_of : Start → Level
-level_of (open_level g) = Open (generator_of g)
-level_of no_children = Closed
+abbrev pub level_of : Start → Option Children
+level_of (open_level g) = Some (generator_of g)
+level_of no_children = None
 
-abbrev pub child_of : Next → Child
-child_of (child z g) = At (trial_of g.weight g.center z) (generator_of g)
-child_of (none g) = End
+abbrev pub child_of : Next → Option (Trial × Children)
+child_of (child z g) = Some (trial_of g.weight g.center z, generator_of g)
+child_of (none g) = None
 
 -- a candidate by itself, and against what remained
-abbrev pub moved_of : ℤ → Moved
-moved_of z = cond (is_i64 z) (In z) Out
+abbrev pub moved_of : ℤ → Option ℤ
+moved_of z = cond (is_i64 z) (Some z) None
 
-abbrev pub tested_of : Zigzag → ℤ → Tested
-tested_of g z = cond (is_i64 z && passes_test g z) (Passed (trial_of g.weight g.center z)) Failed
+abbrev pub tested_of : Zigzag → ℤ → Option Trial
+tested_of g z = cond (is_i64 z && passes_test g z) (Some (trial_of g.weight g.center z)) None
 
 -- whether a step goes upward: odd steps go where the first does
 abbrev pub goes_upward : Children → ℕ → Bool

@@ -4,7 +4,7 @@
 // (tools/oracle/examples/children_test.rs).
 #![tactic(auto)]
 
-use children::{Child, Children, Level, Trial};
+use children::{Children, Trial};
 use printing::values::TOP;
 use printing::{decimal, double, newline, word};
 
@@ -29,14 +29,12 @@ fn row(t: Trial, g: Children) {
 // The first `shown` children, and the number of all of them.
 fn level(name: &[u8], center: f64, remaining: f64, weight: f64, shown: usize) {
     word(name);
-    let Level::Open(made) = Children::new(center, remaining, weight) else {
+    let Some(mut g) = Children::new(center, remaining, weight) else {
         word(b"no children\n");
         return;
     };
-    let mut g = made;
-    let mut count: usize = 0;
-    while count < 1000 {
-        let Child::At(t, after) = g.next() else {
+    for count in 0..1000usize {
+        let Some((t, after)) = g.next() else {
             io::print_decimal(1, count as u64);
             word(b" children\n");
             return;
@@ -45,7 +43,6 @@ fn level(name: &[u8], center: f64, remaining: f64, weight: f64, shown: usize) {
             row(t, after);
         }
         g = after;
-        count += 1;
     }
     word(b"more\n");
 }

@@ -24,12 +24,10 @@ pub fn center(mu: &[f64], rest: &[f64], n: usize, level: usize, value: f64) -> f
     ensures { result ≡ sum_from n (at_entry mu) level (level + 1) (places n (level + 1) (at_entry rest)) value }
 {
     let mut sum = value;
-    let mut j = level + 1;
-    let mut at = j * n + level;
-    while j < n {
-        sum = sum + rest[j] * mu[at];
+    let mut at = (level + 1) * n + level;
+    for j in level + 1..n {
+        sum += rest[j] * mu[at];
         at += n;
-        j += 1;
     }
     sum
 }
@@ -42,11 +40,10 @@ pub fn term(weight: f64, center: f64, z: f64) -> f64
     weight * d * d
 }
 
-// A vector's computed distance, or the total that overflowed.
+// The total of a distance that overflowed.
 #[derive(Clone, Copy)]
-pub enum Distance {
-    Finite(f64),
-    Overflow(f64),
+pub struct Overflow {
+    pub total: f64,
 }
 
 // The sum of the terms from level n - 1 down to 0: the computed distance, or an infinity where it overflows.
@@ -57,26 +54,28 @@ pub fn total(mu: &[f64], weights: &[f64], target: &[f64], point: &[i64]) -> f64
     let n = weights.len();
     let mut rest = [0.0; LARGEST_DIMENSION];
     let mut sum = 0.0;
-    let mut depth = n;
-    while depth > 0 {
-        let level = depth - 1;
+    for level in (0..n).rev() {
         let value = center(mu, &rest, n, level, target[level]);
         let z = to_double(point[level]);
         rest[level] = target[level] - z;
-        sum = sum + term(weights[level], value, z);
-        depth = level;
+        sum += term(weights[level], value, z);
     }
     sum
 }
 
 // The computed distance of a point from the target, or the overflowing total.
-pub fn triangular_distance(mu: &[f64], weights: &[f64], target: &[f64], point: &[i64]) -> Distance
+pub fn triangular_distance(
+    mu: &[f64],
+    weights: &[f64],
+    target: &[f64],
+    point: &[i64],
+) -> Result<f64, Overflow>
     requires { ShapedOut largest_dimension weights.now mu.now target.now point.now }
     ensures { result ≡ distance_of (D.distance (table_at weights mu) (at_entry target) (at_entry point)) }
 {
     let sum = total(mu, weights, target, point);
     if is_finite(sum) {
-        return Distance::Finite(sum);
+        return Ok(sum);
     }
-    Distance::Overflow(sum)
+    Err(Overflow { total: sum })
 }

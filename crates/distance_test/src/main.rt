@@ -8,17 +8,17 @@
 // point of zeros, a line of `term` from the Rust's `triangular_distance` at n = 1.
 #![tactic(auto)]
 
-use distance::Distance;
+use distance::Overflow;
 use printing::values::*;
 use printing::{double, newline, word};
 
-fn say(name: &[u8], d: Distance) {
+fn say(name: &[u8], d: Result<f64, Overflow>) {
     word(name);
     match d {
-        Distance::Finite(x) => double(x),
-        Distance::Overflow(x) => {
+        Ok(x) => double(x),
+        Err(e) => {
             word(b" overflow");
-            double(x);
+            double(e.total);
         }
     }
     newline();

@@ -1,12 +1,12 @@
 -- What the code's answers stand for. Definitions only.
-use Rattle.std.specs.Prelude.{◌≡◌, List, ℤ}
+use Rattle.std.specs.Prelude.{◌≡◌, List, ℤ, Result, Ok, Err}
 use Rattle.definitions.specs.Walk.{Walked, ended, exhausted}
 use Rattle.definitions.specs.Nearest.{Best, no_best, best}
 use Rattle.definitions.specs.Calls.{Answer, found, refused}
 use Rattle.definitions.specs.Calls as C
 use Rattle.refusals.specs.Numbers.{numbered}
-use Rattle.enumerate.specs.declared.NearestAnswer.{NearestAnswer}
-use Rattle.enumerate.specs.declared.NearestAnswer.TheVariants.{Found, Refused}
+use Rattle.refusals.specs.declared.Refusal.{Refusal}
+use Rattle.enumerate.specs.declared.NearestPoint.{NearestPoint}
 use Rattle.enumerate.specs.declared.Ending.{Ending}
 use Rattle.enumerate.specs.declared.Ending.TheVariants.{Point, Nothing, Exhausted}
 
@@ -28,11 +28,11 @@ pub record NearestWalked (w : Walked Best) (out : List ℤ) (r : Ending) (out' :
   pub writes : out' ≡ walk_output w out
 
 -- the answer, out being the output slice at exit
-abbrev pub nearest_answer : NearestAnswer → List ℤ → Answer C.NearestPoint
-nearest_answer (Found p) out = found (record { nodes = p.nodes; distance = p.distance; point = out })
-nearest_answer (Refused e) out = refused (numbered e)
+abbrev pub nearest_answer : Result NearestPoint Refusal → List ℤ → Answer C.NearestPoint
+nearest_answer (Ok p) out = found (record { nodes = p.nodes; distance = p.distance; point = out })
+nearest_answer (Err e) out = refused (numbered e)
 
 -- a call's answer r and what it leaves in the output slice are what the specification's answer a says
-pub record NearestAnswered (a : Answer C.NearestPoint) (out : List ℤ) (r : NearestAnswer) (out' : List ℤ) : Type 0 where
+pub record NearestAnswered (a : Answer C.NearestPoint) (out : List ℤ) (r : Result NearestPoint Refusal) (out' : List ℤ) : Type 0 where
   pub tells : nearest_answer r out' ≡ a
   pub writes : out' ≡ C.nearest_output a out

@@ -7,7 +7,7 @@ ghost use Rattle.enumerate.specs.View.{NearestWalked};
 
 use crate::Ending;
 use definitions::LARGEST_SEARCHED;
-use lists::copy_i64;
+use lists::copy;
 use running::search;
 
 // As `nearest_walk`: a point found goes to out; otherwise out is left as it was.
@@ -46,6 +46,6 @@ pub fn running_walk(
     if found == 0 {
         return Ending::Nothing(end.nodes, end.radius);
     }
-    copy_i64(&best, out);
+    copy(&best, out);
     Ending::Point(end.nodes, end.radius)
 }

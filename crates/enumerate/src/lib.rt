@@ -16,8 +16,8 @@ mod large;
 use checks::{handed_on, nearest_check};
 use definitions::{LARGEST_DIMENSION, LARGEST_SEARCHED};
 use large::running_walk;
-use lists::copy_i64;
-use refusals::{Refusal, Verdict};
+use lists::copy;
+use refusals::Refusal;
 use search::{RecursiveSearch, run};
 
 // What a nearest search gives beside the point that it writes.
@@ -27,15 +27,8 @@ pub struct NearestPoint {
     pub distance: f64,
 }
 
-// The answer of a nearest search.
-#[derive(Clone, Copy)]
-pub enum NearestAnswer {
-    Found(NearestPoint),
-    Refused(Refusal),
-}
-
 // How a nearest walk ended: with a point, with none, or out of budget; each with the nodes and the radius that stood,
-// which is the distance of a point found.
+// which is the distance of a point found. Three ends, so neither an Option nor a Result; those of the definitions' walk.
 #[derive(Clone, Copy)]
 enum Ending {
     Point(u64, f64),
@@ -82,7 +75,7 @@ fn nearest_walk(
     if found == 0 {
         return Ending::Nothing(end.nodes, end.radius);
     }
-    copy_i64(&end.best, out);
+    copy(&end.best, out);
     Ending::Point(end.nodes, end.radius)
 }
 
@@ -105,17 +98,13 @@ fn search_walk(
 }
 
 // The answer that the end of a walk from a radius gives.
-fn answer_of(end: Ending, radius: f64) -> NearestAnswer
+fn answer_of(end: Ending, radius: f64) -> Result<NearestPoint, Refusal>
     ensures { (out : List ℤ) → nearest_answer result out ≡ C.end_of_nearest radius (walked_of end out) }
 {
     match end {
-        Ending::Point(nodes, distance) => {
-            return NearestAnswer::Found(NearestPoint { nodes, distance });
-        }
-        Ending::Nothing(_, _) => return NearestAnswer::Refused(Refusal::OutsideRadius(radius)),
-        Ending::Exhausted(nodes, standing) => {
-            return NearestAnswer::Refused(Refusal::BudgetExhausted(nodes, standing));
-        }
+        Ending::Point(nodes, distance) => Ok(NearestPoint { nodes, distance }),
+        Ending::Nothing(_, _) => Err(Refusal::OutsideRadius(radius)),
+        Ending::Exhausted(nodes, standing) => Err(Refusal::BudgetExhausted(nodes, standing)),
     }
 }
 
@@ -128,7 +117,7 @@ pub fn nearest_within(
     out: &mut [i64],
     radius: f64,
     budget: u64,
-) -> NearestAnswer
+) -> Result<NearestPoint, Refusal>
     requires { WalkShaped largest_searched weights.now mu.now target.now out.old budget }
     ensures { NearestAnswered (C.nearest_within (table_at weights mu) (at_entry target) radius budget) out.old result out.new }
 {
@@ -148,13 +137,9 @@ pub fn nearest(
     out: &mut [i64],
     radius: f64,
     budget: u64,
-) -> NearestAnswer
+) -> Result<NearestPoint, Refusal>
     ensures { NearestAnswered (C.nearest (table_at weights mu) (at_entry target) out.old radius budget) out.old result out.new }
 {
-    let checked = nearest_check(LARGEST_SEARCHED, weights, mu, target, out, radius, budget);
-    if let Verdict::Refuse(e) = checked {
-        return NearestAnswer::Refused(e);
-    }
-    let start = handed_on(radius);
-    nearest_within(weights, mu, target, out, start, budget)
+    nearest_check(LARGEST_SEARCHED, weights, mu, target, out, radius, budget)?;
+    nearest_within(weights, mu, target, out, handed_on(radius), budget)
 }

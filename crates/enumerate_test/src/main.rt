@@ -9,9 +9,7 @@
 // which the Rust does not have, are the specification's.
 #![tactic(auto)]
 
-use enumerate::NearestAnswer;
 use printing::values::*;
-use refusals::Verdict;
 
 fn nearest(
     name: &[u8],
@@ -24,8 +22,8 @@ fn nearest(
 ) {
     printing::word(name);
     match enumerate::nearest(weights, mu, target, out, radius, budget) {
-        NearestAnswer::Found(point) => printing::found(point.nodes, point.distance),
-        NearestAnswer::Refused(e) => printing::verdict(Verdict::Refuse(e)),
+        Ok(point) => printing::found(point.nodes, point.distance),
+        Err(e) => printing::verdict(Err(e)),
     }
     printing::integers(out);
     printing::newline();

@@ -1,6 +1,2 @@
--- Laws of the products, the differences, the signs and the sums.
-pub mod Products
-pub mod Differences
-pub mod Signs
-pub mod Balances
+-- Laws of the sum after some rows.
 pub mod Summed

@@ -1,70 +1,74 @@
--- The sums after some rows: their signedTotal is the rows' own sum, and no field is larger than so many products. Assumes nothing.
+-- The sum after some rows: it is the rows' own, and its magnitude is at most so many products'. Assumes nothing.
 use mathlib.Core.Path.{◌≡◌, ap, sym, ◌∙◌}
+use mathlib.Core.List.{List}
 use Prim.Native.Nat.{ℕ, ◌+◌, ◌*◌, ◌^◌, ◌<◌, ◌≤◌}
+use native.Mathlib.Nat.{mul-le-mul}
 use native.Mathlib.Numerals.{add-one}
 use native.Mathlib.Omega.{arith}
-use lib.IntN.{ℤ, pos, ◌+ℤ◌, ◌-ℤ◌, ◌*ℤ◌}
+use lib.IntN.{ℤ, pos, nat_abs, ◌+ℤ◌, ◌*ℤ◌}
+use lib.ListN.{get_or}
+use lib.Signed.{nat_abs-le}
+use mir.Syntax.{w64, w128}
+use mir.Val.{SFits, to_z, of_z}
+use mir.ValLaws.{to_z-of_z}
+use Rattle.std.proofs.lemmas.Int.{ints, unsigned_abs-mul, fits_signed_from_abs}
 use Rattle.lists.specs.Sums.{sum_of}
 use Rattle.lists.proofs.Sums.{sum_none, sum_next}
-use Rattle.exact.specs.declared.Sum.{Sum}
-use Rattle.exact.specs.declared.Signed.{Signed}
-use Rattle.exact.specs.declared.Wide.{Wide}
-use Rattle.exact.specs.Value.{total, value, most, signed_total, FitsOneMore, Grown, Normal, ProductAdded}
 
--- ---- a sum of k products
-pub record FieldBounds (k : ℕ) (s : Sum) : Type 0 where
-  pub a : s.a ≤ k * most
-  pub b : s.b ≤ k * most
-  pub c : s.c ≤ k * most
-  pub d : s.d ≤ k * 2 ^ 57
+plus_bound : (x y : ℤ) → nat_abs (x +ℤ y) ≤ nat_abs x + nat_abs y
+plus_bound x y = omega (arith, ints)
 
-pub bounds_room : (k : ℕ) (s : Sum) → k < 64 → FieldBounds k s → FitsOneMore s
-bounds_room k s h f = record { a = omega (arith, f.a); b = omega (arith, f.b); c = omega (arith, f.c); d = omega (arith, f.d) }
+-- ---- a product
+-- p and q widened to 128 bits and multiplied
+abbrev wide_product : ℤ → ℤ → ℤ
+wide_product p q = to_z w128 (of_z w128 (to_z w128 (of_z w128 p) *ℤ to_z w128 (of_z w128 q)))
 
--- omega's numbers get too long among the facts at the call
-pub bounds_highest : (k n : ℕ) (s : Sum) → k ≤ n → n ≤ 64 → FieldBounds k s → s.d ≤ 2 ^ 63
-bounds_highest k n s h l f = omega (arith, f.d)
+module _ (x y p q : ℤ) (x-fits : SFits w64 x) (y-small : nat_abs y ≤ 2 ^ 52) (p-is : p ≡ to_z w64 (of_z w64 x)) (q-is : q ≡ to_z w64 (of_z w64 y)) where
+  product_bound : nat_abs (x *ℤ y) ≤ 2 ^ 115
+  product_bound = omega (arith, unsigned_abs-mul x y, mul-le-mul (nat_abs-le x x-fits.sfits) y-small)
 
-bounds_next : (k : ℕ) (s r : Sum) → FieldBounds k s → Grown s r → FieldBounds (k + 1) r
-bounds_next k s r f g = record { a = omega (arith, f.a, g.a); b = omega (arith, f.b, g.b); c = omega (arith, f.c, g.c); d = omega (arith, f.d, g.d) }
+  product_is : wide_product p q ≡ x *ℤ y
+  product_is =
+      let p-x : to_z w128 (of_z w128 p) ≡ x = omega (arith, ints) in
+      let q-y : to_z w128 (of_z w128 q) ≡ y = omega (arith, ints) in
+      rw (p-x, q-y) (to_z-of_z w128 (x *ℤ y) (fits_signed_from_abs w128 (x *ℤ y) (omega (arith, product_bound))))
 
--- ---- the sums after some of n rows
-pub record Summed (term : ℕ → ℤ) (n : ℕ) (s : Signed) (row : ℕ) : Type 0 where
-  pub rows : row ≤ n
-  pub positive : FieldBounds row s.positive
-  pub negative : FieldBounds row s.negative
-  pub is : signed_total s ≡ sum_of row term
+-- ---- the sum after some of n rows
+module _ (left : List ℤ) (first : ℕ) (matrix : List ℤ) (n column : ℕ) where
+  -- a row's product
+  abbrev term : ℕ → ℤ
+  term k = get_or left (first + k) (pos 0) *ℤ get_or matrix (k * n + column) (pos 0)
 
-abbrev pub zero_sum : Sum
-zero_sum = record { a = 0; b = 0; c = 0; d = 0 }
+  pub record Summed (sum : ℤ) (row : ℕ) : Type 0 where
+    pub rows : row ≤ n
+    pub is : sum ≡ sum_of row term
+    pub bound : nat_abs sum ≤ row * 2 ^ 115
 
-pub summed_none : (term : ℕ → ℤ) (n : ℕ) → Summed term n (record { positive = zero_sum; negative = zero_sum }) 0
-summed_none term n = record {
-  rows = omega arith;
-  positive = zero_bounds;
-  negative = zero_bounds;
-  is = sym (sum_none term);
-}
-  where
-    zero_bounds : FieldBounds 0 zero_sum
-    zero_bounds = record { a = omega arith; b = omega arith; c = omega arith; d = omega arith }
+  pub summed_none : Summed (pos 0) 0
+  summed_none = record { rows = omega arith; is = sym (sum_none term); bound = omega arith }
 
-pub summed_next : (term : ℕ → ℤ) (n : ℕ) (s r : Signed) (row : ℕ) (x y : ℤ) → row < n → Summed term n s row → ProductAdded s x y r → x *ℤ y ≡ term row → Summed term n r (row + 1)
-summed_next term n s r row x y h m a e = record {
-  rows = omega arith;
-  positive = bounds_next row s.positive r.positive m.positive a.positive;
-  negative = bounds_next row s.negative r.negative m.negative a.negative;
-  is =
-      a.is
-      ∙ ap (λ (z : ℤ). z +ℤ x *ℤ y) m.is
-      ∙ ap (λ (z : ℤ). sum_of row term +ℤ z) e
-      ∙ sym (ap (λ (k : ℕ). sum_of k term) (add-one row) ∙ sum_next row term);
-}
+  summed_next : (sum : ℤ) (row : ℕ) → row < n → Summed sum row → nat_abs (term row) ≤ 2 ^ 115 → Summed (sum +ℤ term row) (row + 1)
+  summed_next sum row more s small = record {
+    rows = omega arith;
+    is = ap (λ (z : ℤ). z +ℤ term row) s.is ∙ sym (ap (λ (k : ℕ). sum_of k term) (add-one row) ∙ sum_next row term);
+    bound = omega (arith, plus_bound sum (term row), s.bound);
+  }
 
--- all rows are summed, and each sum is in two parts
-pub summed_all : (term : ℕ → ℤ) (n : ℕ) (s : Signed) (row : ℕ) (p q : Wide) → n ≤ row → Summed term n s row → Normal s.positive p → Normal s.negative q → pos (value p) -ℤ pos (value q) ≡ sum_of n term
-summed_all term n s row p q h m e f =
-    ap (λ (k : ℕ). pos k -ℤ pos (value q)) e.is
-    ∙ ap (λ (k : ℕ). pos (total s.positive) -ℤ pos k) f.is
-    ∙ m.is
-    ∙ ap (λ (k : ℕ). sum_of k term) (omega (arith, m.rows))
+  -- a row more: 64 products are below 2^127
+  pub record RowAdded (sum : ℤ) (row : ℕ) : Type 0 where
+    pub fits : SFits w128 sum
+    pub next : Summed (to_z w128 (of_z w128 sum)) (row + 1)
+
+  module _ (sum : ℤ) (row : ℕ) (p q : ℤ) where
+    abbrev x : ℤ
+    x = get_or left (first + row) (pos 0)
+
+    abbrev y : ℤ
+    y = get_or matrix (row * n + column) (pos 0)
+
+    pub row_added : n ≤ 64 → row < n → Summed sum row → SFits w64 x → nat_abs y ≤ 2 ^ 52 → p ≡ to_z w64 (of_z w64 x) → q ≡ to_z w64 (of_z w64 y) → RowAdded (sum +ℤ wide_product p q) row
+    row_added few more s x-fits y-small p-is q-is =
+        let next : Summed (sum +ℤ wide_product p q) (row + 1) =
+        rw (product_is x y p q x-fits y-small p-is q-is) (summed_next sum row more s (product_bound x y p q x-fits y-small p-is q-is)) in
+        let fits : SFits w128 (sum +ℤ wide_product p q) = fits_signed_from_abs w128 (sum +ℤ wide_product p q) (omega (arith, next.bound)) in
+        record { fits = fits; next = rw (to_z-of_z w128 _ fits) next }

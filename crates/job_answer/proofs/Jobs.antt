@@ -15,15 +15,17 @@ use Rattle.definitions.specs.Settings.{largest_places}
 use Rattle.definitions.specs.JobText.{job_nearest, job_list}
 use Rattle.definitions.proofs.ListedOrder.{Listed}
 use Rattle.lists.specs.All.{All}
-use Rattle.enumerate.specs.declared.NearestAnswer.{NearestAnswer}
+use Rattle.std.specs.Prelude.{Result}
+use Rattle.refusals.specs.declared.Refusal.{Refusal}
+use Rattle.enumerate.specs.declared.NearestPoint.{NearestPoint}
 use Rattle.enumerate.specs.View.{NearestAnswered}
-use Rattle.listing.specs.declared.ListAnswer.{ListAnswer}
+use Rattle.listing.specs.declared.ListFound.{ListFound}
 use Rattle.listing.specs.View.{ListAnswered}
 use Rattle.listing.proofs.Found.{call_listed}
 use Rattle.reading.specs.declared.Job.{Job}
 use Rattle.reading.specs.Parts.{ArrayHolds}
 use Rattle.reading.specs.View.{JobShape, job_read}
-use Rattle.reading.proofs.Arrays.{square_fits, take_replicate, array_holds}
+use Rattle.reading.proofs.Arrays.{take_replicate, array_holds}
 
 -- the coordinates of as many points as a job can have places
 abbrev pub coordinate_places : ℕ
@@ -40,21 +42,9 @@ module _ {j : Job} (s : JobShape j) where
   pub weights_fit : j.n ≤ length j.weights
   weights_fit = omega (arith, s.small, s.weights)
 
-  pub target_fits : j.n ≤ length j.target
-  target_fits = omega (arith, s.small, s.target)
-
-  pub mu_fits : j.n * j.n ≤ length j.mu
-  mu_fits = let few = square_fits j.n s.small in omega (arith, s.mu)
-
-  -- the slices have the lengths of the job's table
+  -- the slice has the length of the job's table
   pub weights_length : j.n ≡ length (take j.n j.weights)
   weights_length = sym (length-take-le j.n j.weights weights_fit)
-
-  pub target_length : j.n ≡ length (take j.n j.target)
-  target_length = sym (length-take-le j.n j.target target_fits)
-
-  pub mu_length : j.n * j.n ≡ length (take (j.n * j.n) j.mu)
-  mu_length = sym (length-take-le (j.n * j.n) j.mu mu_fits)
 
   -- the searches of the job, with the places that the code lends
   pub nearest_lent : C.nearest (job_read j).table (job_read j).target (take j.n (replicate largest_dimension (pos 0))) j.radius j.budget ≡ job_nearest (job_read j)
@@ -67,7 +57,7 @@ module _ {j : Job} (s : JobShape j) where
   list_coordinates ds zs b e = subst (λ (n : ℕ). All (Listed n) b.points) (sym weights_length) (call_listed (job_read j).table s.doubles (job_read j).target ds zs j.radius j.budget b e)
 
   -- the arrays after the searches
-  pub point_held : {a : C.Answer C.NearestPoint} {out : List ℤ} {r : NearestAnswer} {out' : List ℤ} → NearestAnswered a out r out' → length out' ≡ j.n → ArrayHolds largest_dimension j.n out' (out' ++ drop j.n (replicate largest_dimension (pos 0)))
+  pub point_held : {a : C.Answer C.NearestPoint} {out : List ℤ} {r : Result NearestPoint Refusal} {out' : List ℤ} → NearestAnswered a out r out' → length out' ≡ j.n → ArrayHolds largest_dimension j.n out' (out' ++ drop j.n (replicate largest_dimension (pos 0)))
   point_held {out' = zs} w size = array_holds largest_dimension j.n (pos 0) zs zs s.small refl size
 
   -- the places of the list
@@ -85,7 +75,7 @@ module _ {j : Job} (s : JobShape j) where
         ∙ ap (λ (zs : List ℤ). C.list (job_read j).table (job_read j).target (replicate places plus_zero) zs j.radius j.budget)
         (take_replicate (j.n * places) coordinate_places (pos 0) points_fit ∙ ap (λ (k : ℕ). replicate (k * places) (pos 0)) weights_length)
 
-    module _ {l : C.Answer C.ListAnswer} {ds : List Float} {zs : List ℤ} {r : ListAnswer} {ds' : List Float} {zs' : List ℤ} (w : ListAnswered l r ds ds' zs zs') where
+    module _ {l : C.Answer C.ListAnswer} {ds : List Float} {zs : List ℤ} {r : Result ListFound Refusal} {ds' : List Float} {zs' : List ℤ} (w : ListAnswered l r ds ds' zs zs') where
       pub distances_held : length ds' ≡ places → ArrayHolds largest_places places ds' (ds' ++ drop places (replicate largest_places (of_bits binary64 0)))
       distances_held size = array_holds largest_places places (of_bits binary64 0) ds' ds' most refl size
 

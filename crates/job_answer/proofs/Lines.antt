@@ -1,9 +1,7 @@
 -- The lines of listed points, one more after the others. Assumes nothing.
 use mathlib.Core.Path.{◌≡◌, refl, ap, sym, ◌∙◌}
 use mathlib.Core.List.{List, [], ◌∷◌, ◌++◌, append-nil, append_assoc}
-use Prim.Native.Nat.{ℕ, suc, ◌+◌, ◌*◌, ◌≤◌, ◌<◌}
-use native.Mathlib.Nat.{mul-le-mul_right, suc-mul}
-use native.Mathlib.Omega.{arith}
+use Prim.Native.Nat.{ℕ, suc}
 use lib.IntN.{ℤ}
 use lib.Ieee.{Float}
 use Rattle.definitions.specs.Listing.{ListPoint}
@@ -26,7 +24,3 @@ no_rows n distances points = refl
 pub next_row : (n k : ℕ) (distances : List Float) (points : List ℤ) → listed_lines (rows n (suc k) distances points) ≡ listed_lines (rows n k distances points) ++ line_of (row n distances points k)
 unfolding rows
 next_row n k distances points = more_lines (rows n k distances points) (row n distances points k)
-
--- a row lies within so many
-pub row_fits : (i k n size : ℕ) → i < k → k * n ≤ size → i * n + n ≤ size
-row_fits i k n size h all = let m = mul-le-mul_right n h in let s = suc-mul i n in omega (arith, m, s, all)

@@ -12,6 +12,8 @@ use Rattle.definitions.specs.Listing.{ListPoint}
 use Rattle.definitions.specs.Calls.{Answer, found, refused, points_in, coordinates, list_distances, list_points}
 use Rattle.definitions.specs.Calls as C
 use Rattle.definitions.specs.Refusals.{Refusal}
+use Rattle.std.specs.Prelude.{Result, Ok, Err}
+use Rattle.refusals.specs.declared.Refusal.{Refusal as Told}
 use Rattle.refusals.specs.Numbers.{numbered}
 use Rattle.definitions.specs.Ratio.{Ratio, ratio, list_ratio}
 use Rattle.definitions.specs.JobText.{text, refusal_line, list_lines, ratio_line}
@@ -19,8 +21,7 @@ use Rattle.definitions.proofs.ListedOrder.{Listed}
 use Rattle.definitions.proofs.Ratios.{ratio_of_written}
 use Rattle.lists.specs.All.{All, more}
 use Rattle.definitions.specs.Rows.{row, rows}
-use Rattle.listing.specs.declared.ListAnswer.{ListAnswer}
-use Rattle.listing.specs.declared.ListAnswer.TheVariants.{Found, Refused}
+use Rattle.listing.specs.declared.ListFound.{ListFound}
 use Rattle.listing.specs.View.{Counts, counts_of, list_answer, ListAnswered}
 use Rattle.job_answer.specs.Texts.{list_text, points_of}
 
@@ -54,37 +55,37 @@ counts_in (found c) = c
 counts_in (refused e) = record { nodes = 0; points = 0 }
 
 module _ (ds : List Float) (zs : List ℤ) where
-  lines : (n : ℕ) (answer : ListAnswer) (L : Answer C.ListAnswer) → list_answer answer ≡ counts_of L → ((a : C.ListAnswer) → L ≡ found a → All (Listed n) a.points) → list_text answer n (list_distances L ds) (list_points L zs) ≡ list_lines L
+  lines : (n : ℕ) (answer : Result ListFound Told) (L : Answer C.ListAnswer) → list_answer answer ≡ counts_of L → ((a : C.ListAnswer) → L ≡ found a → All (Listed n) a.points) → list_text answer n (list_distances L ds) (list_points L zs) ≡ list_lines L
   unfolding list_lines list_distances list_points
-  lines n (Found f) (found a) same all =
+  lines n (Ok f) (found a) same all =
       let nodes : f.nodes ≡ a.nodes = ap (λ (x : Answer Counts). (counts_in x).nodes) same in
       let count : f.points ≡ length a.points = ap (λ (x : Answer Counts). (counts_in x).points) same in
       let new = map (λ (p : ListPoint). p.distance) a.points in
       let back = rows_back n a.points (all a refl) (drop (length new) ds) (drop (length (coordinates a.points)) zs) in
       cc
-  lines n (Found f) (refused e) same all = let z : ◌≡◌ {A = ℕ} 0 1 = cc in absurd (omega arith)
-  lines n (Refused e) (found a) same all = let z : ◌≡◌ {A = ℕ} 0 1 = cc in absurd (omega arith)
-  lines n (Refused e) (refused d) same all = let equal : numbered e ≡ d = cc in ap (λ (r : Refusal). refusal_line (text "list") r.number) equal
+  lines n (Ok f) (refused e) same all = let z : ◌≡◌ {A = ℕ} 0 1 = cc in absurd (omega arith)
+  lines n (Err e) (found a) same all = let z : ◌≡◌ {A = ℕ} 0 1 = cc in absurd (omega arith)
+  lines n (Err e) (refused d) same all = let equal : numbered e ≡ d = cc in ap (λ (r : Refusal). refusal_line (text "list") r.number) equal
 
-  count_said : (answer : ListAnswer) (L : Answer C.ListAnswer) → list_answer answer ≡ counts_of L → points_of answer ≡ points_in L
-  count_said (Found f) (found a) same = ap (λ (x : Answer Counts). (counts_in x).points) same
-  count_said (Found f) (refused e) same = let z : ◌≡◌ {A = ℕ} 0 1 = cc in absurd (omega arith)
-  count_said (Refused e) (found a) same = let z : ◌≡◌ {A = ℕ} 0 1 = cc in absurd (omega arith)
-  count_said (Refused e) (refused d) same = refl
+  count_said : (answer : Result ListFound Told) (L : Answer C.ListAnswer) → list_answer answer ≡ counts_of L → points_of answer ≡ points_in L
+  count_said (Ok f) (found a) same = ap (λ (x : Answer Counts). (counts_in x).points) same
+  count_said (Ok f) (refused e) same = let z : ◌≡◌ {A = ℕ} 0 1 = cc in absurd (omega arith)
+  count_said (Err e) (found a) same = let z : ◌≡◌ {A = ℕ} 0 1 = cc in absurd (omega arith)
+  count_said (Err e) (refused d) same = refl
 
-  few : (answer : ListAnswer) (L : Answer C.ListAnswer) → list_answer answer ≡ counts_of L → length (list_distances L ds) ≡ length ds → points_of answer ≤ length ds
+  few : (answer : Result ListFound Told) (L : Answer C.ListAnswer) → list_answer answer ≡ counts_of L → length (list_distances L ds) ≡ length ds → points_of answer ≤ length ds
   unfolding list_distances
-  few (Found f) (found a) same kept =
+  few (Ok f) (found a) same kept =
       let count : f.points ≡ length a.points = ap (λ (x : Answer Counts). (counts_in x).points) same in
       let new = map (λ (p : ListPoint). p.distance) a.points in
       let l = length-append new (drop (length new) ds) in
       let d = length-drop (length new) ds in
       let m = length-map a.points (λ (p : ListPoint). p.distance) in
       omega (arith, count, l, d, m, kept)
-  few (Found f) (refused e) same kept = let z : ◌≡◌ {A = ℕ} 0 1 = cc in absurd (omega arith)
-  few (Refused e) L same kept = omega arith
+  few (Ok f) (refused e) same kept = let z : ◌≡◌ {A = ℕ} 0 1 = cc in absurd (omega arith)
+  few (Err e) L same kept = omega arith
 
-module _ {L : Answer C.ListAnswer} {ds : List Float} {zs : List ℤ} {answer : ListAnswer} {ds' : List Float} {zs' : List ℤ} (a : ListAnswered L answer ds ds' zs zs') where
+module _ {L : Answer C.ListAnswer} {ds : List Float} {zs : List ℤ} {answer : Result ListFound Told} {ds' : List Float} {zs' : List ℤ} (a : ListAnswered L answer ds ds' zs zs') where
   -- no more points than places
   pub points_few : length ds' ≡ length ds → points_of answer ≤ length ds
   points_few kept = few ds zs answer L a.tells (sym (ap length a.writes_distances) ∙ kept)

@@ -1,7 +1,7 @@
 // The job program over an open file.
 #![tactic(auto)]
 
-use job_answer::{OUTPUT_SIZE, Printed, answer_input};
+use job_answer::{OUTPUT_SIZE, answer_input};
 
 // Reads a job from an open file and writes its text to standard output. Of a longer file only the first bytes are read,
 // as many as the buffer holds: the text is the same.
@@ -10,7 +10,7 @@ pub fn answer_file(fd: i32) {
     let count = io::read_full(fd, &mut input);
     let mut out = [0u8; OUTPUT_SIZE];
     let printed = answer_input(&input, count, &mut out);
-    if let Printed::Bytes(size) = printed {
+    if let Ok(size) = printed {
         io::write_all(1, &out[..size]);
     }
 }

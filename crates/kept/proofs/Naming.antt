@@ -6,14 +6,15 @@ use native.Mathlib.Omega.{arith}
 use lib.ListN.{length}
 use lib.IntN.{ℤ}
 use lib.Ieee.{Float}
+use Rattle.std.specs.Prelude.{Result, Err}
 use Rattle.definitions.specs.Table.{Table, table}
 use Rattle.definitions.specs.Machine.{Machine, run_for}
 use Rattle.definitions.specs.Kept.{Held, search_for}
 use Rattle.definitions.specs.Block.{Block, written_table, written_walk, written_search}
 use Rattle.definitions.proofs.Machine.{begin_nodes}
+use Rattle.refusals.specs.declared.Refusal.{Refusal as CodeRefusal}
 use Rattle.refusals.specs.declared.Refusal.TheVariants.{BudgetExhausted}
-use Rattle.enumerate.specs.declared.NearestAnswer.{NearestAnswer}
-use Rattle.enumerate.specs.declared.NearestAnswer.TheVariants.{Refused}
+use Rattle.enumerate.specs.declared.NearestPoint.{NearestPoint as CodePoint}
 use Rattle.enumerate.specs.View.{NearestAnswered}
 use Rattle.enumerate.proofs.Answers.{answered_refused, answered_as}
 use Rattle.resume.specs.declared.Walk.{Walk}
@@ -44,13 +45,13 @@ module _ (p : Block) (weights mu target : List Float) (out : List ℤ) (R : Floa
       all : (k : ℕ) → k - 0 ≡ k
       all k = omega arith
 
-  pub over : length out ≡ length weights → s.count ≡ 0 → {r : NearestAnswer} {out' : List ℤ} → NearestAnswered (over_answer R s out) out r out' → PartNamed p t target out R budget r out' p
+  pub over : length out ≡ length weights → s.count ≡ 0 → {r : Result CodePoint CodeRefusal} {out' : List ℤ} → NearestAnswered (over_answer R s out) out r out' → PartNamed p t target out R budget r out' p
   over e none a = record {
     answered = answered_as (sym (over_answer_lem weights s h.walk is none R out e)) a;
     part_is = sym (over_left weights s h.walk is none p (written_search h));
   }
 
-  pub goes_on : (s.count ≡ 0 → ⊥) → {reals : List Float} {integers : List ℤ} {counts : List ℕ} → Holds (written_walk (written_table t target R) (length weights) (machine_of weights s)) reals integers counts → PartNamed p t target out R budget (Refused (BudgetExhausted s.nodes s.radius)) out (block reals integers counts)
+  pub goes_on : (s.count ≡ 0 → ⊥) → {reals : List Float} {integers : List ℤ} {counts : List ℕ} → Holds (written_walk (written_table t target R) (length weights) (machine_of weights s)) reals integers counts → PartNamed p t target out R budget (Err (BudgetExhausted s.nodes s.radius)) out (block reals integers counts)
   goes_on some x = record {
     answered = answered_refused (BudgetExhausted s.nodes s.radius) out (going_answer weights s h.walk is some R);
     part_is =

@@ -1,7 +1,7 @@
 -- A walk of the code as a machine that is over, or is not. Assumes nothing.
 use mathlib.Core.Path.{◌≡◌, sym, ap, ◌∙◌}
 use mathlib.Core.List.{List, [], ◌∷◌}
-use Prim.Native.Nat.{ℕ, suc, ◌-◌, ◌≤◌}
+use Prim.Native.Nat.{ℕ, suc, ◌-◌}
 use native.Mathlib.Omega.{arith}
 use lib.ListN.{length}
 use lib.IntN.{ℤ}
@@ -52,6 +52,3 @@ module _ (weights : List Float) (s : Walk) (m : Machine) (is : machine_of weight
 
     pub going_left : {A : Type 0} (over goes : A) → if_over m.stack over goes ≡ goes
     going_left over goes = ap (λ (x : Machine). if_over x.stack over goes) (sym is) ∙ ap (λ (fs : List Frame). if_over fs over goes) stack_going
-
-    pub at_least_one : 1 ≤ s.count
-    at_least_one = omega (arith, some)

@@ -1,5 +1,5 @@
 -- The two calls on the part of one name: what they ask for and what they leave. p is the part at entry, and ' marks what is there at exit. Definitions only.
-use Rattle.std.specs.Prelude.{◌≡◌, true, List, [], ◌∷◌, ℕ, ◌-◌, ◌≤◌, length, ℤ, Float}
+use Rattle.std.specs.Prelude.{◌≡◌, Result, true, List, [], ◌∷◌, ℕ, ◌-◌, ◌≤◌, length, ℤ, Float}
 use Rattle.definitions.specs.Table.{Table, largest_dimension, largest_budget}
 use Rattle.definitions.specs.Shapes.{WalkShaped}
 use Rattle.definitions.specs.Walk.{ended}
@@ -10,7 +10,8 @@ use Rattle.definitions.specs.Kept.{Slot, search_for, answer_of, if_over, held_ch
 use Rattle.definitions.specs.Block.{Block, is_sound, part_nodes, part_table, part_target, part_machine, part_slot, written_search, rewritten}
 use Rattle.definitions.specs.Named.{if_passed, further_answer, further_slot}
 use Rattle.enumerate.specs.View.{NearestAnswered}
-use Rattle.enumerate.specs.declared.NearestAnswer.{NearestAnswer}
+use Rattle.refusals.specs.declared.Refusal.{Refusal}
+use Rattle.enumerate.specs.declared.NearestPoint.{NearestPoint}
 use Rattle.resume.specs.declared.Walk.{Walk}
 use Rattle.resume.specs.View.{best_of, machine_of}
 use Rattle.resume.specs.Ready.{Sound}
@@ -39,7 +40,7 @@ pub record WentOn (p : Block) (sum : ℕ) (r : Walk) : Type 0 where
 abbrev pub part_checks : Slot → List ℤ → ℕ → List Verdict
 part_checks x out budget = held_check x ∷ output_check x (length out) ∷ sum_check x budget ∷ []
 
-pub record PartPickedUp (p : Block) (out : List ℤ) (budget : ℕ) (r : NearestAnswer) (out' : List ℤ) (p' : Block) : Type 0 where
+pub record PartPickedUp (p : Block) (out : List ℤ) (budget : ℕ) (r : Result NearestPoint Refusal) (out' : List ℤ) (p' : Block) : Type 0 where
   pub answered : NearestAnswered (C.after (first_refusal (part_checks (part_slot p) out budget)) (further_answer budget (part_slot p))) out r out'
   pub part_is : p' ≡ if_passed (first_refusal (part_checks (part_slot p) out budget)) p (rewritten p (further_slot budget (part_slot p)))
 
@@ -48,6 +49,6 @@ pub record NamedReady (p : Block) (weights mu target : List Float) (out : List �
   pub lengths : PartLengths p
   pub shape : WalkShaped largest_dimension weights mu target out budget
 
-pub record PartNamed (p : Block) (t : Table) (target : List Float) (out : List ℤ) (R : Float) (budget : ℕ) (r : NearestAnswer) (out' : List ℤ) (p' : Block) : Type 0 where
+pub record PartNamed (p : Block) (t : Table) (target : List Float) (out : List ℤ) (R : Float) (budget : ℕ) (r : Result NearestPoint Refusal) (out' : List ℤ) (p' : Block) : Type 0 where
   pub answered : NearestAnswered (answer_of (search_for t target R budget)) out r out'
   pub part_is : p' ≡ if_over (search_for t target R budget).walk.stack p (written_search (search_for t target R budget))

@@ -16,30 +16,48 @@ pub mod part;
 
 use checks::{handed_on, nearest_check};
 use definitions::LARGEST_DIMENSION;
-use enumerate::NearestAnswer;
+use enumerate::NearestPoint;
 use part::{nearest_part, pick_up_part};
-use refusals::{Refusal, Verdict};
+use refusals::Refusal;
+
+// The places of one name's part in each of the block's slices: `reals_of_part`, `integers_of_part`, `counts_of_part`. A
+// block stays three slices, and no struct of them, since C lends it so; and each call cuts its part out of them itself,
+// since a function that handed the three parts out would need a clause on loans that is longer than these lines.
+pub const REALS_OF_PART: usize = 646;
+
+pub const INTEGERS_OF_PART: usize = 92;
+
+pub const COUNTS_OF_PART: usize = 96;
+
+// The places of a block, which has a part for each of the names 1 to 8.
+const REALS: usize = 8 * REALS_OF_PART;
+
+const INTEGERS: usize = 8 * INTEGERS_OF_PART;
+
+const COUNTS: usize = 8 * COUNTS_OF_PART;
 
 // 25, then 6 of the block's three slices.
-pub fn block_check(reals: &[f64], integers: &[i64], counts: &[u64], name: u64) -> Verdict
+pub fn block_check(
+    reals: &[f64],
+    integers: &[i64],
+    counts: &[u64],
+    name: u64,
+) -> Result<(), Refusal>
     ensures { verdict result ≡ first_refusal (name_check name ∷ block_checks (block (at_entry reals) (at_entry integers) (at_entry counts))) }
 {
-    if name < 1 {
-        return Verdict::Refuse(Refusal::NameRange);
+    if name < 1 || name > 8 {
+        return Err(Refusal::NameRange);
     }
-    if name > 8 {
-        return Verdict::Refuse(Refusal::NameRange);
+    if reals.len() != REALS {
+        return Err(Refusal::LengthMismatch(REALS, reals.len()));
     }
-    if reals.len() != 5168 {
-        return Verdict::Refuse(Refusal::LengthMismatch(5168, reals.len()));
+    if integers.len() != INTEGERS {
+        return Err(Refusal::LengthMismatch(INTEGERS, integers.len()));
     }
-    if integers.len() != 736 {
-        return Verdict::Refuse(Refusal::LengthMismatch(736, integers.len()));
+    if counts.len() != COUNTS {
+        return Err(Refusal::LengthMismatch(COUNTS, counts.len()));
     }
-    if counts.len() != 768 {
-        return Verdict::Refuse(Refusal::LengthMismatch(768, counts.len()));
-    }
-    Verdict::Pass
+    Ok(())
 }
 
 // Finds the nearest integer vector inside the radius, for n up to 23, and writes it to out; tells the nodes and the
@@ -59,34 +77,24 @@ pub fn nearest_named(
     out: &mut [i64],
     radius: f64,
     budget: u64,
-) -> NearestAnswer
+) -> Result<NearestPoint, Refusal>
     ensures { KeptAnswered (D.nearest_named (block reals.old integers.old counts.old) name (table_at weights mu) (at_entry target) out.old radius budget) (D.block_after_named (block reals.old integers.old counts.old) name (table_at weights mu) (at_entry target) out.old radius budget) out.old result out.new (block reals.new integers.new counts.new) }
 {
-    let placed = block_check(reals, integers, counts, name);
-    if let Verdict::Refuse(e) = placed {
-        return NearestAnswer::Refused(e);
-    }
-    let checked = nearest_check(LARGEST_DIMENSION, weights, mu, target, out, radius, budget);
-    if let Verdict::Refuse(e) = checked {
-        return NearestAnswer::Refused(e);
-    }
+    block_check(reals, integers, counts, name)?;
+    nearest_check(LARGEST_DIMENSION, weights, mu, target, out, radius, budget)?;
     let at = (name - 1) as usize;
-    let r = at * 646;
-    let r_end = r + 646;
-    let i = at * 92;
-    let i_end = i + 92;
-    let c = at * 96;
-    let c_end = c + 96;
-    let start = handed_on(radius);
+    let r = at * REALS_OF_PART;
+    let i = at * INTEGERS_OF_PART;
+    let c = at * COUNTS_OF_PART;
     nearest_part(
-        &mut reals[r..r_end],
-        &mut integers[i..i_end],
-        &mut counts[c..c_end],
+        &mut reals[r..r + REALS_OF_PART],
+        &mut integers[i..i + INTEGERS_OF_PART],
+        &mut counts[c..c + COUNTS_OF_PART],
         weights,
         mu,
         target,
         out,
-        start,
+        handed_on(radius),
         budget,
     )
 }
@@ -103,24 +111,18 @@ pub fn pick_up(
     name: u64,
     out: &mut [i64],
     budget: u64,
-) -> NearestAnswer
+) -> Result<NearestPoint, Refusal>
     ensures { KeptAnswered (D.pick_up (block reals.old integers.old counts.old) name out.old budget) (D.block_after_pick_up (block reals.old integers.old counts.old) name out.old budget) out.old result out.new (block reals.new integers.new counts.new) }
 {
-    let placed = block_check(reals, integers, counts, name);
-    if let Verdict::Refuse(e) = placed {
-        return NearestAnswer::Refused(e);
-    }
+    block_check(reals, integers, counts, name)?;
     let at = (name - 1) as usize;
-    let r = at * 646;
-    let r_end = r + 646;
-    let i = at * 92;
-    let i_end = i + 92;
-    let c = at * 96;
-    let c_end = c + 96;
+    let r = at * REALS_OF_PART;
+    let i = at * INTEGERS_OF_PART;
+    let c = at * COUNTS_OF_PART;
     pick_up_part(
-        &mut reals[r..r_end],
-        &mut integers[i..i_end],
-        &mut counts[c..c_end],
+        &mut reals[r..r + REALS_OF_PART],
+        &mut integers[i..i + INTEGERS_OF_PART],
+        &mut counts[c..c + COUNTS_OF_PART],
         out,
         budget,
     )

@@ -1,40 +1,29 @@
 // The two calls on the part of one name, once the name and the block have passed their checks.
-ghost use Rattle.std.specs.Prelude.{◌≡◌, ◌+◌, ◌-◌, ◌^◌, min};
 ghost use Rattle.definitions.specs.Lent.{at_entry, at_exit, table_at};
 ghost use Rattle.enumerate.specs.View.{NearestAnswered};
 ghost use Rattle.parts.specs.Parts.{block, PartLengths};
 ghost use Rattle.kept.specs.Part.{EndReady, over_answer, GoOnReady, WentOn, PartPickedUp, NamedReady, PartNamed};
 
 use definitions::{LARGEST_BUDGET, LARGEST_DIMENSION, LARGEST_SQUARE};
-use enumerate::{NearestAnswer, NearestPoint};
-use lists::copy_i64;
+use enumerate::NearestPoint;
+use lists::copy;
 use parts::{clear, is_sound, read_walk, write_table, write_walk};
 use refusals::Refusal;
 use resume::{Walk, begun, residuals_of, run_to};
 
 // The answer of a walk from a radius that is over: its best goes to out.
-fn end_of(s: Walk, radius: f64, out: &mut [i64]) -> NearestAnswer
+fn end_of(s: Walk, radius: f64, out: &mut [i64]) -> Result<NearestPoint, Refusal>
     requires { EndReady s out.old }
     ensures { NearestAnswered (over_answer radius s out.old) out.old result out.new }
 {
     if !s.found {
-        return NearestAnswer::Refused(Refusal::OutsideRadius(radius));
+        return Err(Refusal::OutsideRadius(radius));
     }
-    copy_i64(&s.best, out);
-    NearestAnswer::Found(NearestPoint {
+    copy(&s.best, out);
+    Ok(NearestPoint {
         nodes: s.nodes,
         distance: s.radius,
     })
-}
-
-// The sum of two numbers, or the largest number if it is larger.
-fn sum_told(nodes: u64, budget: u64) -> u64
-    ensures { result ≡ min (nodes + budget) (2 ^ 64 - 1) }
-{
-    if budget > 18446744073709551615 - nodes {
-        return 18446744073709551615;
-    }
-    nodes + budget
 }
 
 // The walk of a sound part, gone on to a sum of budgets.
@@ -64,20 +53,20 @@ pub fn pick_up_part(
     counts: &mut [u64],
     out: &mut [i64],
     budget: u64,
-) -> NearestAnswer
+) -> Result<NearestPoint, Refusal>
     requires { PartLengths (block reals.old integers.old counts.old) }
     ensures { PartPickedUp (block reals.old integers.old counts.old) out.old budget result out.new (block reals.new integers.new counts.new) }
 {
     if !is_sound(counts) {
-        return NearestAnswer::Refused(Refusal::NameEmpty);
+        return Err(Refusal::NameEmpty);
     }
     let n = counts[0] as usize;
     if out.len() != n {
-        return NearestAnswer::Refused(Refusal::LengthMismatch(n, out.len()));
+        return Err(Refusal::LengthMismatch(n, out.len()));
     }
     let nodes = counts[1];
     if budget > LARGEST_BUDGET - nodes {
-        return NearestAnswer::Refused(Refusal::SumRange(sum_told(nodes, budget)));
+        return Err(Refusal::SumRange(nodes.saturating_add(budget)));
     }
     let radius = reals[575];
     let s = gone_on(reals, integers, counts, nodes + budget);
@@ -86,7 +75,7 @@ pub fn pick_up_part(
         return end_of(s, radius, out);
     }
     write_walk(n, s, reals, integers, counts);
-    NearestAnswer::Refused(Refusal::BudgetExhausted(s.nodes, s.radius))
+    Err(Refusal::BudgetExhausted(s.nodes, s.radius))
 }
 
 // The search of a named call, its checks having passed. If it is not over, it is put down in the part.
@@ -100,7 +89,7 @@ pub fn nearest_part(
     out: &mut [i64],
     radius: f64,
     budget: u64,
-) -> NearestAnswer
+) -> Result<NearestPoint, Refusal>
     requires { NamedReady (block reals.old integers.old counts.old) weights.now mu.now target.now out.old budget }
     ensures { PartNamed (block reals.old integers.old counts.old) (table_at weights mu) (at_entry target) out.old radius budget result out.new (block reals.new integers.new counts.new) }
 {
@@ -112,5 +101,5 @@ pub fn nearest_part(
     }
     write_table(weights, mu, target, radius, reals);
     write_walk(weights.len(), s, reals, integers, counts);
-    NearestAnswer::Refused(Refusal::BudgetExhausted(s.nodes, s.radius))
+    Err(Refusal::BudgetExhausted(s.nodes, s.radius))
 }

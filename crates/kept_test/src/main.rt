@@ -8,9 +8,9 @@
 // 9 and 25 to 27, of 6 for the block, of what a block holds and of parts that no call has written are the specification's.
 #![tactic(auto)]
 
-use enumerate::NearestAnswer;
+use enumerate::NearestPoint;
 use printing::values::*;
-use refusals::{Refusal, Verdict};
+use refusals::Refusal;
 
 // Radii in 23 dimensions: with a point inside, and without one.
 const RADIUS_23: f64 = 3.35;
@@ -19,10 +19,10 @@ const OUTSIDE_23: f64 = 2.1;
 
 // ---- the calls
 
-fn answer(a: NearestAnswer, out: &[i64]) {
+fn answer(a: Result<NearestPoint, Refusal>, out: &[i64]) {
     match a {
-        NearestAnswer::Found(point) => printing::found(point.nodes, point.distance),
-        NearestAnswer::Refused(e) => printing::verdict(Verdict::Refuse(e)),
+        Ok(point) => printing::found(point.nodes, point.distance),
+        Err(e) => printing::verdict(Err(e)),
     }
     printing::integers(out);
     printing::newline();
@@ -188,23 +188,17 @@ fn dimension(e: Refusal) {
 fn held(reals: &mut [f64], integers: &mut [i64], counts: &mut [u64], name: u64) {
     let mut out = [7; 24];
     match kept::pick_up(reals, integers, counts, name, &mut out, 0) {
-        NearestAnswer::Found(_) => printing::word(b" found"),
-        NearestAnswer::Refused(e) => dimension(e),
+        Ok(_) => printing::word(b" found"),
+        Err(e) => dimension(e),
     }
-}
-
-fn four(reals: &mut [f64], integers: &mut [i64], counts: &mut [u64], names: [u64; 4]) {
-    held(reals, integers, counts, names[0]);
-    held(reals, integers, counts, names[1]);
-    held(reals, integers, counts, names[2]);
-    held(reals, integers, counts, names[3]);
 }
 
 // The same of every name.
 fn names(case: &[u8], reals: &mut [f64], integers: &mut [i64], counts: &mut [u64]) {
     printing::word(case);
-    four(reals, integers, counts, [1, 2, 3, 4]);
-    four(reals, integers, counts, [5, 6, 7, 8]);
+    for name in 1..=8 {
+        held(reals, integers, counts, name);
+    }
     printing::newline();
 }
 
@@ -213,68 +207,22 @@ fn names(case: &[u8], reals: &mut [f64], integers: &mut [i64], counts: &mut [u64
 fn changed(case: &[u8], reals: &[f64], integers: &[i64], counts: &[u64]) {
     printing::word(case);
     printing::word(b" reals");
-    changed_reals(reals);
+    changed_places(reals, 9.0);
     printing::word(b" integers");
-    changed_integers(integers);
+    changed_places(integers, 9);
     printing::word(b" counts");
-    changed_counts(counts);
+    changed_places(counts, 9);
     printing::newline();
 }
 
-fn changed_reals(list: &[f64]) {
+fn changed_places<T: Copy + PartialEq>(list: &[T], nine: T) {
     let mut inside = false;
-    let mut i = 0;
-    while i < list.len() {
-        if list[i] == 9.0 {
-            if inside {
-                printing::count(i as u64);
-            }
-            inside = false;
-        } else {
-            if !inside {
-                printing::count(i as u64);
-            }
-            inside = true;
+    for (i, &x) in list.iter().enumerate() {
+        let differs = x != nine;
+        if differs != inside {
+            printing::count(i as u64);
         }
-        i += 1;
-    }
-}
-
-fn changed_integers(list: &[i64]) {
-    let mut inside = false;
-    let mut i = 0;
-    while i < list.len() {
-        if list[i] == 9 {
-            if inside {
-                printing::count(i as u64);
-            }
-            inside = false;
-        } else {
-            if !inside {
-                printing::count(i as u64);
-            }
-            inside = true;
-        }
-        i += 1;
-    }
-}
-
-fn changed_counts(list: &[u64]) {
-    let mut inside = false;
-    let mut i = 0;
-    while i < list.len() {
-        if list[i] == 9 {
-            if inside {
-                printing::count(i as u64);
-            }
-            inside = false;
-        } else {
-            if !inside {
-                printing::count(i as u64);
-            }
-            inside = true;
-        }
-        i += 1;
+        inside = differs;
     }
 }
 
@@ -282,11 +230,11 @@ fn changed_counts(list: &[u64]) {
 fn written(case: &[u8], reals: &[f64], integers: &[i64], counts: &[u64]) {
     printing::word(case);
     printing::word(b" reals");
-    written_reals(reals);
+    written_places(reals, 0.0, printing::double);
     printing::word(b" integers");
-    written_integers(integers);
+    written_places(integers, 0, printing::integer);
     printing::word(b" counts");
-    written_counts(counts);
+    written_places(counts, 0, printing::count);
     printing::newline();
 }
 
@@ -295,36 +243,14 @@ fn place(i: usize) {
     printing::word(b":");
 }
 
-fn written_reals(reals: &[f64]) {
-    let mut i = 0;
-    while i < reals.len() {
-        if reals[i] != 0.0 {
+fn written_places<T: Copy + PartialEq, W: Fn(T)>(list: &[T], zero: T, write: W)
+    requires { W.IsAlwaysCallable write }
+{
+    for (i, &x) in list.iter().enumerate() {
+        if x != zero {
             place(i);
-            printing::double(reals[i]);
+            write(x);
         }
-        i += 1;
-    }
-}
-
-fn written_integers(integers: &[i64]) {
-    let mut i = 0;
-    while i < integers.len() {
-        if integers[i] != 0 {
-            place(i);
-            printing::integer(integers[i]);
-        }
-        i += 1;
-    }
-}
-
-fn written_counts(counts: &[u64]) {
-    let mut i = 0;
-    while i < counts.len() {
-        if counts[i] != 0 {
-            place(i);
-            printing::count(counts[i]);
-        }
-        i += 1;
     }
 }
 
@@ -427,11 +353,9 @@ fn by_ones() {
         2.0,
         1,
     );
-    up_2(b"G by ones:", &mut reals, &mut integers, &mut counts, 8, 1);
-    up_2(b"G by ones:", &mut reals, &mut integers, &mut counts, 8, 1);
-    up_2(b"G by ones:", &mut reals, &mut integers, &mut counts, 8, 1);
-    up_2(b"G by ones:", &mut reals, &mut integers, &mut counts, 8, 1);
-    up_2(b"G by ones:", &mut reals, &mut integers, &mut counts, 8, 1);
+    for _ in 0..5 {
+        up_2(b"G by ones:", &mut reals, &mut integers, &mut counts, 8, 1);
+    }
     three(
         b"three by ones:",
         &mut reals,
@@ -440,102 +364,16 @@ fn by_ones() {
         8,
         0,
     );
-    up_3(
-        b"three by ones:",
-        &mut reals,
-        &mut integers,
-        &mut counts,
-        8,
-        1,
-    );
-    up_3(
-        b"three by ones:",
-        &mut reals,
-        &mut integers,
-        &mut counts,
-        8,
-        1,
-    );
-    up_3(
-        b"three by ones:",
-        &mut reals,
-        &mut integers,
-        &mut counts,
-        8,
-        1,
-    );
-    up_3(
-        b"three by ones:",
-        &mut reals,
-        &mut integers,
-        &mut counts,
-        8,
-        1,
-    );
-    up_3(
-        b"three by ones:",
-        &mut reals,
-        &mut integers,
-        &mut counts,
-        8,
-        1,
-    );
-    up_3(
-        b"three by ones:",
-        &mut reals,
-        &mut integers,
-        &mut counts,
-        8,
-        1,
-    );
-    up_3(
-        b"three by ones:",
-        &mut reals,
-        &mut integers,
-        &mut counts,
-        8,
-        1,
-    );
-    up_3(
-        b"three by ones:",
-        &mut reals,
-        &mut integers,
-        &mut counts,
-        8,
-        1,
-    );
-    up_3(
-        b"three by ones:",
-        &mut reals,
-        &mut integers,
-        &mut counts,
-        8,
-        1,
-    );
-    up_3(
-        b"three by ones:",
-        &mut reals,
-        &mut integers,
-        &mut counts,
-        8,
-        1,
-    );
-    up_3(
-        b"three by ones:",
-        &mut reals,
-        &mut integers,
-        &mut counts,
-        8,
-        1,
-    );
-    up_3(
-        b"three by ones:",
-        &mut reals,
-        &mut integers,
-        &mut counts,
-        8,
-        1,
-    );
+    for _ in 0..12 {
+        up_3(
+            b"three by ones:",
+            &mut reals,
+            &mut integers,
+            &mut counts,
+            8,
+            1,
+        );
+    }
 }
 
 // The block after each slice of G. Other readings: what is read is not what is written; numbers left over behind the open
@@ -940,34 +778,15 @@ fn of_23() {
         RADIUS_23,
         22,
     );
-    up_23(
-        b"n = 23, and 300:",
-        &mut reals,
-        &mut integers,
-        &mut counts,
-        300,
-    );
-    up_23(
-        b"n = 23, and 300:",
-        &mut reals,
-        &mut integers,
-        &mut counts,
-        300,
-    );
-    up_23(
-        b"n = 23, and 300:",
-        &mut reals,
-        &mut integers,
-        &mut counts,
-        300,
-    );
-    up_23(
-        b"n = 23, and 300:",
-        &mut reals,
-        &mut integers,
-        &mut counts,
-        300,
-    );
+    for _ in 0..4 {
+        up_23(
+            b"n = 23, and 300:",
+            &mut reals,
+            &mut integers,
+            &mut counts,
+            300,
+        );
+    }
     named_23(
         b"n = 23, outside:",
         &mut reals,
@@ -976,34 +795,15 @@ fn of_23() {
         OUTSIDE_23,
         100,
     );
-    up_23(
-        b"n = 23, and 400:",
-        &mut reals,
-        &mut integers,
-        &mut counts,
-        400,
-    );
-    up_23(
-        b"n = 23, and 400:",
-        &mut reals,
-        &mut integers,
-        &mut counts,
-        400,
-    );
-    up_23(
-        b"n = 23, and 400:",
-        &mut reals,
-        &mut integers,
-        &mut counts,
-        400,
-    );
-    up_23(
-        b"n = 23, and 400:",
-        &mut reals,
-        &mut integers,
-        &mut counts,
-        400,
-    );
+    for _ in 0..4 {
+        up_23(
+            b"n = 23, and 400:",
+            &mut reals,
+            &mut integers,
+            &mut counts,
+            400,
+        );
+    }
 }
 
 // ---- the refusals' order: each call below is also wrong for a later one

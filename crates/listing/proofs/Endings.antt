@@ -2,10 +2,11 @@
 use mathlib.Core.Path.{◌≡◌, ap, sym, ◌∙◌}
 use mathlib.Core.List.{List, map, ◌++◌}
 use Prim.Native.Nat.{ℕ, ◌*◌}
-use native.Mathlib.Omega.{arith}
 use lib.ListN.{length, drop, length-map}
 use lib.IntN.{ℤ}
 use lib.Ieee.{Float}
+use Rattle.std.specs.Prelude.{Result, Ok, Err}
+use Rattle.refusals.specs.declared.Refusal as F
 use Rattle.definitions.specs.Walk.{Walked, ended, exhausted}
 use Rattle.definitions.specs.Listing.{ListPoint, sorted}
 use Rattle.definitions.specs.Refusals.{Refusal}
@@ -19,20 +20,17 @@ use Rattle.sorting.proofs.Sorted.{sorted_keeps}
 use Rattle.listing.proofs.Coordinates.{coordinates_length}
 use Rattle.listing.specs.View.{list_answer, counts_of, ending_of, ListAnswered}
 use Rattle.listing.specs.Ready.{ListWritten}
-use Rattle.listing.specs.declared.ListAnswer.{ListAnswer}
-use Rattle.listing.specs.declared.ListEnding.TheVariants.{Ended, Exhausted}
+use Rattle.listing.specs.declared.ListFound.{ListFound}
+use Rattle.listing.specs.declared.Exhausted.{Exhausted}
 
 -- ---- the ending
-Ended≢Exhausted : (m c l : ℕ) (S : Float) → Ended m c ≡ Exhausted l S → ⊥
-Ended≢Exhausted m c l S e = let z : ◌≡◌ {A = ℕ} 0 1 = cc in omega (arith, z)
+pub ending_exhausted : (w : Walked (List ListPoint)) (x : Exhausted) → ending_of w ≡ Err x → w ≡ exhausted x.nodes x.radius
+ending_exhausted (exhausted k R) x e = cc
+ending_exhausted (ended ps R k) x e = cc
 
-pub ending_exhausted : (w : Walked (List ListPoint)) (m : ℕ) (S : Float) → ending_of w ≡ Exhausted m S → w ≡ exhausted m S
-ending_exhausted (exhausted k R) m S e = let a : k ≡ m = cc in let b : R ≡ S = cc in ap (λ (j : ℕ). exhausted j R) a ∙ ap (exhausted m) b
-ending_exhausted (ended ps R k) m S e = absurd (Ended≢Exhausted k (length ps) m S e)
-
-pub ending_ended : (w : Walked (List ListPoint)) (m c : ℕ) → ending_of w ≡ Ended m c → (ps : List ListPoint) × (S : Float) × (w ≡ ended ps S m) × (length ps ≡ c)
-ending_ended (exhausted k R) m c e = absurd (Ended≢Exhausted m c k R (sym e))
-ending_ended (ended ps R k) m c e = let a : k ≡ m = cc in let b : length ps ≡ c = cc in (ps, R, ap (ended ps R) a, b)
+pub ending_ended : (w : Walked (List ListPoint)) (f : ListFound) → ending_of w ≡ Ok f → (ps : List ListPoint) × (S : Float) × (w ≡ ended ps S f.nodes) × (length ps ≡ f.points)
+ending_ended (exhausted k R) f e = cc
+ending_ended (ended ps R k) f e = (ps, R, cc, cc)
 
 -- ---- the points in the first places, the others as they were
 pub first_places : (ps : List ListPoint) (distances : List Float) (points : List ℤ) (k n : ℕ) → length ps ≡ k → All (Listed n) ps → {ds : List Float} {zs : List ℤ} → ds ≡ map (λ (p : ListPoint). p.distance) (sorted ps) → zs ≡ coordinates (sorted ps) →
@@ -47,7 +45,7 @@ first_places ps distances points k n e listed d z =
     }
 
 -- ---- the answer
-module _ (a : Answer C.ListAnswer) (r : ListAnswer) (distances : List Float) (points : List ℤ) where
+module _ (a : Answer C.ListAnswer) (r : Result ListFound F.Refusal) (distances : List Float) (points : List ℤ) where
   pub answer_refused : (e : Refusal) → list_answer r ≡ refused e → a ≡ refused e → ListAnswered a r distances distances points points
   answer_refused e t q = record {
     tells = t ∙ sym (ap counts_of q);

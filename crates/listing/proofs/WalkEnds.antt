@@ -6,6 +6,7 @@ use native.Mathlib.Omega.{arith}
 use lib.ListN.{length, take}
 use lib.IntN.{ℤ}
 use lib.Ieee.{Float}
+use Rattle.std.specs.Prelude.{Result, Ok}
 use Rattle.definitions.specs.Walk.{Walked, ended, exhausted}
 use Rattle.definitions.specs.Listing.{ListPoint}
 use Rattle.definitions.specs.Rows.{rows}
@@ -13,11 +14,11 @@ use Rattle.search.specs.Call.{State}
 use Rattle.search.proofs.Outcomes.{Found}
 use Rattle.listing.specs.View.{ending_of}
 use Rattle.listing.specs.Ready.{ListWalked}
-use Rattle.listing.specs.declared.ListEnding.{ListEnding}
-use Rattle.listing.specs.declared.ListEnding.TheVariants.{Ended}
+use Rattle.listing.specs.declared.ListFound.{ListFound}
+use Rattle.listing.specs.declared.Exhausted.{Exhausted}
 
 -- a walk by another name
-pub walked_as : {n places : ℕ} {v w : Walked (List ListPoint)} {r : ListEnding} {distances : List Float} {points : List ℤ} → v ≡ w → ListWalked n places v r distances points → ListWalked n places w r distances points
+pub walked_as : {n places : ℕ} {v w : Walked (List ListPoint)} {r : Result ListFound Exhausted} {distances : List Float} {points : List ℤ} → v ≡ w → ListWalked n places v r distances points → ListWalked n places w r distances points
 walked_as {n} {places} {v} {w} {r} {distances} {points} e = subst (λ (x : Walked (List ListPoint)). ListWalked n places x r distances points) e
 
 -- a walk that was exhausted has no list
@@ -28,8 +29,8 @@ exhausted_unlisted w l S e ps R m q =
     omega (arith, z)
 
 module _ (n : ℕ) (x : State) (w : Walked (List ListPoint)) (l : Found n x w) where
-  pub found_ending : Ended x.search.nodes x.search.listed ≡ ending_of w
-  found_ending = ap (Ended x.search.nodes) (sym l.count) ∙ sym (ap ending_of l.is)
+  pub found_ending : Ok (record { nodes = x.search.nodes; points = x.search.listed }) ≡ ending_of w
+  found_ending = ap (λ (k : ℕ). Ok (record { nodes = x.search.nodes; points = k })) (sym l.count) ∙ sym (ap ending_of l.is)
 
   -- the places hold its points in the order of their finding, as far as there was room
   pub found_stored : (places : ℕ) → length x.distances ≡ places → (ps : List ListPoint) (R : Float) (m : ℕ) → w ≡ ended ps R m → rows n (min (length ps) places) x.distances x.points ≡ take places (reverse ps)

@@ -46,8 +46,9 @@ module _ {A : Type 0} (old src : List A) (at from n : ℕ) (new : List A) (room 
   part_length : n ≤ length part
   part_length = simp (length-take, length-drop) (omega arith)
 
-  pub row_copied : new ≡ take (length (mid_of at (at + n - at) old)) part → (put_mid at (at + n - at) old new ≡ over old at (take n (drop from src))) × (length (over old at (take n (drop from src))) ≡ length old)
-  row_copied copied = (
-    copied_part old part at n new room part_length copied ∙ ap (over old at) part_take,
-    over_length old at (take n (drop from src)) (simp (length-take, length-drop) (omega arith)),
-  )
+  pub row_copied : new ≡ part → (put_mid at (at + n - at) old new ≡ over old at (take n (drop from src))) × (length (over old at (take n (drop from src))) ≡ length old)
+  row_copied copied =
+      let whole : part ≡ take (length (mid_of at (at + n - at) old)) part = sym (take_all _ part (simp (length-take, length-drop) (omega arith))) in (
+        copied_part old part at n new room part_length (copied ∙ whole) ∙ ap (over old at) part_take,
+        over_length old at (take n (drop from src)) (simp (length-take, length-drop) (omega arith)),
+      )

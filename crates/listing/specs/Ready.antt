@@ -1,5 +1,5 @@
 -- What the functions ask for, and what they leave. Definitions only.
-use Rattle.std.specs.Prelude.{◌≡◌, false, List, map, reverse, ℕ, ◌*◌, ◌≤◌, ◌<◌, min, length, take, ℤ, Float}
+use Rattle.std.specs.Prelude.{◌≡◌, Result, false, List, map, reverse, ℕ, ◌*◌, ◌≤◌, ◌<◌, min, length, take, ℤ, Float}
 use Rattle.std.specs.Float.{binary64}
 use Rattle.rounding.specs.Kinds.{NonNegative}
 use Rattle.lists.specs.All.{All, AllBelow}
@@ -12,7 +12,8 @@ use Rattle.definitions.specs.Rows.{rows}
 use Rattle.definitions.specs.Checks.{pass, weight_fault}
 use Rattle.definitions.specs.Calls.{list_checks, written, coordinates}
 use Rattle.sorting.specs.Ready.{PlacesReady}
-use Rattle.listing.specs.declared.ListEnding.{ListEnding}
+use Rattle.listing.specs.declared.ListFound.{ListFound}
+use Rattle.listing.specs.declared.Exhausted.{Exhausted}
 use Rattle.listing.specs.View.{ending_of}
 
 -- ---- the walk
@@ -23,7 +24,7 @@ pub record WalkReady (largest : ℕ) (weights mu target distances : List Float) 
   pub bounded : budget ≤ largest_budget
 
 -- how the walk w ended; the first points that it found are stored in the order of finding, as many as there are places
-pub record ListWalked (n places : ℕ) (w : Walked (List ListPoint)) (r : ListEnding) (distances : List Float) (points : List ℤ) : Type 0 where
+pub record ListWalked (n places : ℕ) (w : Walked (List ListPoint)) (r : Result ListFound Exhausted) (distances : List Float) (points : List ℤ) : Type 0 where
   pub ending : r ≡ ending_of w
   pub stored : (ps : List ListPoint) (R : Float) (m : ℕ) → w ≡ ended ps R m → rows n (min (length ps) places) distances points ≡ take places (reverse ps)
   pub distances_length : length distances ≡ places

@@ -1,5 +1,5 @@
 -- What the code's answers stand for. Definitions only.
-use Rattle.std.specs.Prelude.{◌≡◌, ℕ, List, length, ℤ, Float}
+use Rattle.std.specs.Prelude.{◌≡◌, Result, Ok, Err, ℕ, List, length, ℤ, Float}
 use Rattle.std.specs.Borrow.{Bor, MutBor}
 use denote.Triple.Both.{Both}
 use Rattle.definitions.specs.Lent.{at_entry, table_at}
@@ -8,10 +8,9 @@ use Rattle.definitions.specs.Listing.{ListPoint}
 use Rattle.definitions.specs.Calls.{Answer, found, refused}
 use Rattle.definitions.specs.Calls as C
 use Rattle.refusals.specs.Numbers.{numbered}
-use Rattle.listing.specs.declared.ListAnswer.{ListAnswer}
-use Rattle.listing.specs.declared.ListAnswer.TheVariants.{Found, Refused}
-use Rattle.listing.specs.declared.ListEnding.{ListEnding}
-use Rattle.listing.specs.declared.ListEnding.TheVariants.{Ended, Exhausted}
+use Rattle.refusals.specs.declared.Refusal.{Refusal}
+use Rattle.listing.specs.declared.ListFound.{ListFound}
+use Rattle.listing.specs.declared.Exhausted.{Exhausted}
 
 -- the node count of a list and how many points it has: the points themselves go to the lent slices
 pub record Counts : Type 0 where
@@ -24,20 +23,20 @@ counts_of (found a) = found (record { nodes = a.nodes; points = length a.points 
 counts_of (refused e) = refused e
 
 -- what the code's answer tells
-abbrev pub list_answer : ListAnswer → Answer Counts
-list_answer (Found f) = found (record { nodes = f.nodes; points = f.points })
-list_answer (Refused e) = refused (numbered e)
+abbrev pub list_answer : Result ListFound Refusal → Answer Counts
+list_answer (Ok f) = found (record { nodes = f.nodes; points = f.points })
+list_answer (Err e) = refused (numbered e)
 
 -- a call's answer and what it leaves in the lent slices are what the specification's answer l says
-pub record ListAnswered (l : Answer C.ListAnswer) (r : ListAnswer) (distances distances' : List Float) (points points' : List ℤ) : Type 0 where
+pub record ListAnswered (l : Answer C.ListAnswer) (r : Result ListFound Refusal) (distances distances' : List Float) (points points' : List ℤ) : Type 0 where
   pub tells : list_answer r ≡ counts_of l
   pub writes_distances : distances' ≡ C.list_distances l distances
   pub writes_points : points' ≡ C.list_points l points
 
 -- how a list walk ended: with so many points, or out of budget
-abbrev pub ending_of : Walked (List ListPoint) → ListEnding
-ending_of (ended ps standing nodes) = Ended nodes (length ps)
-ending_of (exhausted nodes standing) = Exhausted nodes standing
+abbrev pub ending_of : Walked (List ListPoint) → Result ListFound Exhausted
+ending_of (ended ps standing nodes) = Ok (record { nodes = nodes; points = length ps })
+ending_of (exhausted nodes standing) = Err (record { nodes = nodes; radius = standing })
 
 -- the specification's list of what the slices hold at entry
 module _ {A B T D E : Type 0} where

@@ -1,13 +1,13 @@
 // The list of the integer vectors within a radius.
 #![tactic(auto)]
 
-ghost use Rattle.std.specs.Prelude.{length};
-ghost use Rattle.definitions.specs.Table.{table, largest_list};
+ghost use Rattle.std.specs.Prelude.{◌≡◌, ◌*◌, ◌≤◌, length};
+ghost use Rattle.definitions.specs.Table.{table, largest_dimension, largest_list};
 ghost use Rattle.definitions.specs.Lent.{at_entry, at_exit, table_at};
 ghost use Rattle.definitions.specs.Calls as C;
 ghost use Rattle.listing.specs.View.{ListAnswered, list_at};
 ghost use Rattle.listing.specs.Ready.{RoomsReady, Rooms, ListFits, WithinReady, IntoReady};
-ghost use Rattle.listing.specs.Sizes.{short_list};
+ghost use Rattle.refusals.specs.declared.Refusal.TheVariants.{BudgetExhausted};
 
 mod output;
 mod walks;
@@ -15,7 +15,7 @@ mod walks;
 use checks::{handed_on, list_check};
 use definitions::{LARGEST_DIMENSION, LARGEST_LIST, LARGEST_LIST_POINTS, LARGEST_SEARCHED};
 use output::write_first;
-use refusals::{Refusal, Verdict};
+use refusals::Refusal;
 use walks::{search_walk, walk_in_place};
 
 // The places of a short list, as many as the job has, and its coordinates at n = 23.
@@ -33,18 +33,19 @@ pub struct ListFound {
     pub points: usize,
 }
 
-// The answer of a list.
+// How far a list walk came whose budget ran out: its nodes, and the radius that stood.
 #[derive(Clone, Copy)]
-pub enum ListAnswer {
-    Found(ListFound),
-    Refused(Refusal),
+pub struct Exhausted {
+    pub nodes: u64,
+    pub radius: f64,
 }
 
-// How a list walk ended: with so many nodes and points, or out of budget with the nodes and the radius.
-#[derive(Clone, Copy)]
-pub enum ListEnding {
-    Ended(u64, u64),
-    Exhausted(u64, f64),
+impl From<Exhausted> for Refusal {
+    ghost from_gives = { λ x e. e ≡ BudgetExhausted x.nodes x.radius };
+
+    fn from(x: Exhausted) -> Refusal {
+        Refusal::BudgetExhausted(x.nodes, x.radius)
+    }
 }
 
 // `list` once its checks have passed. What is found goes to measured and vectors; order and spare are room for the sort.
@@ -62,41 +63,34 @@ fn list_into(
     points: &mut [i64],
     radius: f64,
     budget: u64,
-) -> ListAnswer
+) -> Result<ListFound, Refusal>
     requires { IntoReady (table weights.now mu.now) target.now distances.old points.old radius budget measured.old vectors.old order.old spare.old }
     ensures { ListAnswered (list_at weights mu target distances points radius budget) result distances.old distances.new points.old points.new }
 {
     let n = weights.len();
     let start = handed_on(radius);
-    let end = search_walk(weights, mu, target, measured, vectors, start, budget);
-    match end {
-        ListEnding::Exhausted(nodes, standing) => {
-            return ListAnswer::Refused(Refusal::BudgetExhausted(nodes, standing));
-        }
-        ListEnding::Ended(nodes, count) => {
-            let k = count as usize;
-            if k > distances.len() {
-                return ListAnswer::Refused(Refusal::ListFull(k));
-            }
-            if k > measured.len() {
-                let size = k * n;
-                walk_in_place(
-                    weights,
-                    mu,
-                    target,
-                    &mut distances[..k],
-                    &mut points[..size],
-                    start,
-                    budget,
-                );
-                return ListAnswer::Found(ListFound { nodes, points: k });
-            }
-            write_first(
-                measured, vectors, n, k, start, order, spare, distances, points,
-            );
-            return ListAnswer::Found(ListFound { nodes, points: k });
-        }
+    let found = search_walk(weights, mu, target, measured, vectors, start, budget)?;
+    let k = found.points;
+    if k > distances.len() {
+        return Err(Refusal::ListFull(k));
     }
+    if k > measured.len() {
+        let size = k * n;
+        walk_in_place(
+            weights,
+            mu,
+            target,
+            &mut distances[..k],
+            &mut points[..size],
+            start,
+            budget,
+        );
+        return Ok(found);
+    }
+    write_first(
+        measured, vectors, n, k, start, order, spare, distances, points,
+    );
+    Ok(found)
 }
 
 // How many points so many coordinates have room for: as many as there are places, or fewer.
@@ -123,7 +117,7 @@ fn list_within(
     points: &mut [i64],
     radius: f64,
     budget: u64,
-) -> ListAnswer
+) -> Result<ListFound, Refusal>
     requires { WithinReady (table weights.now mu.now) target.now distances.old points.old radius budget measured.old vectors.old order.old spare.old }
     ensures { ListAnswered (list_at weights mu target distances points radius budget) result distances.old distances.new points.old points.new }
 {
@@ -144,8 +138,11 @@ fn list_within(
     )
 }
 
-// `list` once its checks have passed, with arrays for all places at n = 23.
-fn list_long(
+// `list` once its checks have passed, with arrays for so many places and coordinates: the shorter they are, the less there is
+// to clear. It is not inlined: so the arrays of each size lie in a frame of their own, and a caller that lends few places does
+// not need the stack of the long ones.
+#[inline(never)]
+fn list_with<const PLACES: usize, const COORDINATES: usize>(
     weights: &[f64],
     mu: &[f64],
     target: &[f64],
@@ -153,14 +150,16 @@ fn list_long(
     points: &mut [i64],
     radius: f64,
     budget: u64,
-) -> ListAnswer
-    requires { ListFits (table weights.now mu.now) target.now distances.old points.old radius budget largest_list }
+) -> Result<ListFound, Refusal>
+    requires few { PLACES ≤ largest_list }
+    requires short { COORDINATES ≤ largest_list * largest_dimension }
+    requires fits { ListFits (table weights.now mu.now) target.now distances.old points.old radius budget PLACES }
     ensures { ListAnswered (list_at weights mu target distances points radius budget) result distances.old distances.new points.old points.new }
 {
-    let mut measured = [0.0; LARGEST_LIST];
-    let mut vectors = [0i64; LARGEST_LIST_POINTS];
-    let mut order = [0usize; LARGEST_LIST];
-    let mut spare = [0usize; LARGEST_LIST];
+    let mut measured = [0.0; PLACES];
+    let mut vectors = [0i64; COORDINATES];
+    let mut order = [0usize; PLACES];
+    let mut spare = [0usize; PLACES];
     list_within(
         weights,
         mu,
@@ -174,96 +173,6 @@ fn list_long(
         radius,
         budget,
     )
-}
-
-// The same with fewer coordinates: a shorter array to clear.
-fn list_middle(
-    weights: &[f64],
-    mu: &[f64],
-    target: &[f64],
-    distances: &mut [f64],
-    points: &mut [i64],
-    radius: f64,
-    budget: u64,
-) -> ListAnswer
-    requires { ListFits (table weights.now mu.now) target.now distances.old points.old radius budget largest_list }
-    ensures { ListAnswered (list_at weights mu target distances points radius budget) result distances.old distances.new points.old points.new }
-{
-    let mut measured = [0.0; LARGEST_LIST];
-    let mut vectors = [0i64; MIDDLE_LIST_POINTS];
-    let mut order = [0usize; LARGEST_LIST];
-    let mut spare = [0usize; LARGEST_LIST];
-    list_within(
-        weights,
-        mu,
-        target,
-        &mut measured,
-        &mut vectors,
-        &mut order,
-        &mut spare,
-        distances,
-        points,
-        radius,
-        budget,
-    )
-}
-
-// The same with few places, as the job has them.
-fn list_short(
-    weights: &[f64],
-    mu: &[f64],
-    target: &[f64],
-    distances: &mut [f64],
-    points: &mut [i64],
-    radius: f64,
-    budget: u64,
-) -> ListAnswer
-    requires { ListFits (table weights.now mu.now) target.now distances.old points.old radius budget short_list }
-    ensures { ListAnswered (list_at weights mu target distances points radius budget) result distances.old distances.new points.old points.new }
-{
-    let mut measured = [0.0; SHORT_LIST];
-    let mut vectors = [0i64; SHORT_LIST_POINTS];
-    let mut order = [0usize; SHORT_LIST];
-    let mut spare = [0usize; SHORT_LIST];
-    list_within(
-        weights,
-        mu,
-        target,
-        &mut measured,
-        &mut vectors,
-        &mut order,
-        &mut spare,
-        distances,
-        points,
-        radius,
-        budget,
-    )
-}
-
-// The same with more places than a short list has.
-//
-// The first branch is never taken, since the checks have passed. It is there since a function that calls itself is not
-// inlined: so the long arrays lie in a frame of their own, and a caller that lends few places does not need their stack.
-fn list_large(
-    weights: &[f64],
-    mu: &[f64],
-    target: &[f64],
-    distances: &mut [f64],
-    points: &mut [i64],
-    radius: f64,
-    budget: u64,
-) -> ListAnswer
-    requires { ListFits (table weights.now mu.now) target.now distances.old points.old radius budget largest_list }
-    ensures { ListAnswered (list_at weights mu target distances points radius budget) result distances.old distances.new points.old points.new }
-{
-    if distances.len() > LARGEST_LIST {
-        list_large(weights, mu, target, distances, points, radius, budget);
-        return ListAnswer::Refused(Refusal::ListFull(distances.len()));
-    }
-    if points.len() <= MIDDLE_LIST_POINTS {
-        return list_middle(weights, mu, target, distances, points, radius, budget);
-    }
-    list_long(weights, mu, target, distances, points, radius, budget)
 }
 
 // Lists every integer vector that is admitted at the radius, in the order of their distances, and where these are equal
@@ -282,10 +191,10 @@ pub fn list(
     points: &mut [i64],
     radius: f64,
     budget: u64,
-) -> ListAnswer
+) -> Result<ListFound, Refusal>
     ensures { ListAnswered (list_at weights mu target distances points radius budget) result distances.old distances.new points.old points.new }
 {
-    let checked = list_check(
+    list_check(
         LARGEST_SEARCHED,
         weights,
         mu,
@@ -294,14 +203,18 @@ pub fn list(
         points,
         radius,
         budget,
-    );
-    if let Verdict::Refuse(e) = checked {
-        return ListAnswer::Refused(e);
+    )?;
+    if distances.len() <= SHORT_LIST && points.len() <= SHORT_LIST_POINTS {
+        return list_with::<SHORT_LIST, SHORT_LIST_POINTS>(
+            weights, mu, target, distances, points, radius, budget,
+        );
     }
-    if distances.len() <= SHORT_LIST {
-        if points.len() <= SHORT_LIST_POINTS {
-            return list_short(weights, mu, target, distances, points, radius, budget);
-        }
+    if points.len() <= MIDDLE_LIST_POINTS {
+        return list_with::<LARGEST_LIST, MIDDLE_LIST_POINTS>(
+            weights, mu, target, distances, points, radius, budget,
+        );
     }
-    list_large(weights, mu, target, distances, points, radius, budget)
+    list_with::<LARGEST_LIST, LARGEST_LIST_POINTS>(
+        weights, mu, target, distances, points, radius, budget,
+    )
 }

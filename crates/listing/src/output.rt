@@ -7,7 +7,6 @@ ghost use Rattle.definitions.specs.Calls.{written, coordinates};
 ghost use Rattle.definitions.specs.Rows.{row, rows};
 ghost use Rattle.listing.specs.Ready.{DistancesReady, PointsReady, WriteReady, FirstReady, ListWritten};
 
-use lists::copy_i64;
 use sorting::sort_places;
 
 // Writes the distances at the places of order, in that order, over the first ones.
@@ -15,11 +14,8 @@ fn write_distances(found: &[f64], order: &[usize], distances: &mut [f64])
     requires { DistancesReady found.now order.now distances.old }
     ensures { distances.new ≡ written (map (λ (i : ℕ). get_or (at_entry found) i nan) (at_entry order)) distances.old }
 {
-    let mut i = 0;
-    while i < order.len() {
-        let place = order[i];
+    for (i, &place) in order.iter().enumerate() {
         distances[i] = found[place];
-        i += 1;
     }
 }
 
@@ -28,14 +24,12 @@ fn write_points(found: &[i64], order: &[usize], n: usize, points: &mut [i64])
     requires { PointsReady found.now order.now n points.old }
     ensures { (ds : List Float) → points.new ≡ written (coordinates (map (row n ds (at_entry found)) (at_entry order))) points.old }
 {
-    let mut i = 0;
-    while i < order.len() {
-        let from = order[i] * n;
+    for (i, &place) in order.iter().enumerate() {
+        let from = place * n;
         let from_end = from + n;
         let to = i * n;
         let to_end = to + n;
-        copy_i64(&found[from..from_end], &mut points[to..to_end]);
-        i += 1;
+        points[to..to_end].copy_from_slice(&found[from..from_end]);
     }
 }
 

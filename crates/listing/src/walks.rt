@@ -7,7 +7,7 @@ ghost use Rattle.definitions.specs.Listing.{list_walk};
 ghost use Rattle.definitions.specs.Running.{running_list, list_search};
 ghost use Rattle.listing.specs.Ready.{WalkReady, ListWalked, InPlaceReady, InPlace};
 
-use crate::ListEnding;
+use crate::{Exhausted, ListFound};
 use definitions::{LARGEST_DIMENSION, LARGEST_SEARCHED};
 use running::search;
 use search::{RecursiveSearch, run};
@@ -22,7 +22,7 @@ fn list_walk(
     points: &mut [i64],
     radius: f64,
     budget: u64,
-) -> ListEnding
+) -> Result<ListFound, Exhausted>
     requires { WalkReady largest_dimension weights.now mu.now target.now distances.old points.old budget }
     ensures { ListWalked (length (at_entry weights)) (length distances.old) (list_walk (table_at weights mu) (at_entry target) radius budget) result distances.new points.new }
 {
@@ -45,9 +45,15 @@ fn list_walk(
         RecursiveSearch::new(radius),
     );
     if exhausted {
-        return ListEnding::Exhausted(end.nodes, end.radius);
+        return Err(Exhausted {
+            nodes: end.nodes,
+            radius: end.radius,
+        });
     }
-    ListEnding::Ended(end.nodes, found)
+    Ok(ListFound {
+        nodes: end.nodes,
+        points: found as usize,
+    })
 }
 
 // With running centres, for every n that is searched.
@@ -59,7 +65,7 @@ fn running_walk(
     points: &mut [i64],
     radius: f64,
     budget: u64,
-) -> ListEnding
+) -> Result<ListFound, Exhausted>
     requires { WalkReady largest_searched weights.now mu.now target.now distances.old points.old budget }
     ensures { ListWalked (length (at_entry weights)) (length distances.old) (running_list (table_at weights mu) (at_entry target) radius budget) result distances.new points.new }
 {
@@ -80,9 +86,15 @@ fn running_walk(
         radius,
     );
     if exhausted {
-        return ListEnding::Exhausted(end.nodes, end.radius);
+        return Err(Exhausted {
+            nodes: end.nodes,
+            radius: end.radius,
+        });
     }
-    ListEnding::Ended(end.nodes, found)
+    Ok(ListFound {
+        nodes: end.nodes,
+        points: found as usize,
+    })
 }
 
 // The walk by n: with running centres from 24 on.
@@ -94,7 +106,7 @@ pub fn search_walk(
     points: &mut [i64],
     radius: f64,
     budget: u64,
-) -> ListEnding
+) -> Result<ListFound, Exhausted>
     requires { WalkReady largest_searched weights.now mu.now target.now distances.old points.old budget }
     ensures { ListWalked (length (at_entry weights)) (length distances.old) (list_search (table_at weights mu) (at_entry target) radius budget) result distances.new points.new }
 {
@@ -117,6 +129,6 @@ pub fn walk_in_place(
     requires { InPlaceReady weights.now mu.now target.now distances.old points.old radius budget }
     ensures { InPlace (list_search (table_at weights mu) (at_entry target) radius budget) distances.new points.new }
 {
-    search_walk(weights, mu, target, distances, points, radius, budget);
+    let _ = search_walk(weights, mu, target, distances, points, radius, budget);
     sort_rows(distances, points, weights.len());
 }

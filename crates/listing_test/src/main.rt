@@ -9,18 +9,18 @@
 // 18, which the Rust does not have, are the specification's.
 #![tactic(auto)]
 
-use listing::ListAnswer;
+use listing::ListFound;
 use printing::values::*;
-use refusals::Verdict;
+use refusals::Refusal;
 
-fn answered(answer: ListAnswer) {
+fn answered(answer: Result<ListFound, Refusal>) {
     match answer {
-        ListAnswer::Found(list) => {
+        Ok(list) => {
             printing::word(b" found");
             printing::count(list.nodes);
             printing::count(list.points as u64);
         }
-        ListAnswer::Refused(e) => printing::verdict(Verdict::Refuse(e)),
+        Err(e) => printing::verdict(Err(e)),
     }
 }
 
@@ -366,54 +366,34 @@ fn ends() {
 
 // ---- many points
 
-// The sum of the values, each times its place counted from 1.
-fn weighed(values: &[f64]) -> f64 {
+// The sum of the values as doubles, each times its place counted from 1.
+fn weighed<T: Copy, F: Fn(T) -> f64>(values: &[T], double: F) -> f64
+    requires { F.IsAlwaysCallable double }
+{
     let mut sum = 0.0;
     let mut place = 0.0;
-    let mut i = 0;
-    while i < values.len() {
+    for value in values {
         place += 1.0;
-        sum += place * values[i];
-        i += 1;
+        sum += place * double(*value);
     }
     sum
 }
 
-// The same of integers.
-fn weighed_integers(values: &[i64]) -> f64 {
-    let mut sum = 0.0;
-    let mut place = 0.0;
-    let mut i = 0;
-    while i < values.len() {
-        place += 1.0;
-        sum += place * rounding::to_double(values[i]);
-        i += 1;
-    }
-    sum
+fn first<T>(values: &[T], k: usize) -> &[T] {
+    &values[..k.min(values.len())]
 }
 
-fn first_distances(values: &[f64], k: usize) {
-    if k <= values.len() {
-        printing::doubles(&values[0..k]);
-    }
+fn last<T>(values: &[T], k: usize) -> &[T] {
+    &values[values.len() - k.min(values.len())..]
 }
 
-fn last_distances(values: &[f64], k: usize) {
-    if k <= values.len() {
-        printing::doubles(&values[values.len() - k..]);
-    }
-}
-
-fn first_coordinates(values: &[i64], k: usize) {
-    if k <= values.len() {
-        printing::integers(&values[0..k]);
-    }
-}
-
-fn last_coordinates(values: &[i64], k: usize) {
-    if k <= values.len() {
-        printing::integers(&values[values.len() - k..]);
-    }
+// The first and the last few distances and coordinates.
+fn ends_of(distances: &[f64], points: &[i64], shown: usize, coordinates: usize) {
+    printing::doubles(first(distances, shown));
+    printing::integers(first(points, coordinates));
+    printing::doubles(last(distances, shown));
+    printing::integers(last(points, coordinates));
+    printing::newline();
 }
 
 // For the slices stand the first and the last few distances and coordinates.
@@ -431,11 +411,7 @@ fn few(
 ) {
     printing::word(name);
     answered(listing::list(weights, mu, target, distances, points, radius, budget));
-    first_distances(distances, shown);
-    first_coordinates(points, coordinates);
-    last_distances(distances, shown);
-    last_coordinates(points, coordinates);
-    printing::newline();
+    ends_of(distances, points, shown, coordinates);
 }
 
 // The same, with the weighed sums before them. Each of these is exact.
@@ -453,13 +429,9 @@ fn summed(
 ) {
     printing::word(name);
     answered(listing::list(weights, mu, target, distances, points, radius, budget));
-    printing::double(weighed(distances));
-    printing::double(weighed_integers(points));
-    first_distances(distances, shown);
-    first_coordinates(points, coordinates);
-    last_distances(distances, shown);
-    last_coordinates(points, coordinates);
-    printing::newline();
+    printing::double(weighed(distances, |x| x));
+    printing::double(weighed(points, rounding::to_double));
+    ends_of(distances, points, shown, coordinates);
 }
 
 // Pairs of equal points. Every place is taken.
@@ -765,13 +737,7 @@ fn every_row() {
 
 fn weights_of_many() -> [f64; 64] {
     let mut weights = [4.0; 64];
-    weights[0] = 1.0;
-    weights[1] = 1.0;
-    weights[2] = 1.0;
-    weights[3] = 1.0;
-    weights[4] = 1.0;
-    weights[5] = 1.0;
-    weights[6] = 1.0;
+    weights[..7].fill(1.0);
     weights[7] = 0.5;
     weights[30] = 0.25;
     weights[63] = 0.125;
@@ -780,13 +746,7 @@ fn weights_of_many() -> [f64; 64] {
 
 fn target_of_many() -> [f64; 64] {
     let mut target = [0.0; 64];
-    target[0] = 0.5;
-    target[1] = 0.5;
-    target[2] = 0.5;
-    target[3] = 0.5;
-    target[4] = 0.5;
-    target[5] = 0.5;
-    target[6] = 0.5;
+    target[..7].fill(0.5);
     target[7] = 0.25;
     target[30] = -0.25;
     target

@@ -1,50 +1,33 @@
--- A matrix's elements: the tests of the code, and where an element lies. Assumes nothing.
-use mathlib.Core.Path.{◌≡◌, refl, sym, ap, ◌∙◌}
-use mathlib.Core.Bool.{Bool, true, false, true≢false}
+-- The fault of an element of a matrix, and a test of each number below n. Assumes nothing.
+use mathlib.Core.Path.{◌≡◌, sym, ap, ◌∙◌}
+use mathlib.Core.Bool.{Bool, true, false}
 use mathlib.Core.List.{List}
-use Prim.Native.Nat.{ℕ, ◌+◌, ◌-◌, ◌*◌, ◌^◌, ◌≤◌, ◌<◌}
-use native.Mathlib.Nat.{mul-le-mul_right, add-mul}
+use Prim.Native.Nat.{ℕ, ◌<◌}
 use native.Mathlib.Omega.{arith}
-use borrow.Author.Tests.{eq-eqb, ne_eqb}
-use lib.Dec.{eqb, leb-suc-suc}
-use lib.ListN.{get_or}
-use lib.IntN.{ℤ, pos, negsuc}
-use lib.Signed.{lt_z}
-use mir.Syntax.{w64}
-use mir.Val.{SFits, to_z, of_z}
-use mir.ValLaws.{to_z-of_z}
-use Rattle.definitions.specs.Prepared.{element_fault, same_integer}
-use Rattle.definitions.proofs.Prepared.{same_integer_lem, integer_same}
-
--- ---- where an element lies
-pub row_in_matrix : (n row : ℕ) → row < n → row * n + n ≤ n * n
-row_in_matrix n row h = let a : (row + 1) * n ≤ n * n = mul-le-mul_right n (omega arith) in omega (arith, add-mul row 1 n)
-
-pub in_matrix : (n row column : ℕ) → row < n → column < n → row * n + column < n * n
-in_matrix n row column h k = omega (arith, row_in_matrix n row h)
-
--- their number is small
-pub few_elements : (n : ℕ) → n ≤ 64 → n * n ≤ 4096
-few_elements n h = let a : n * n ≤ 64 * n = mul-le-mul_right n h in omega arith
+use lib.ListN.{get_or, length}
+use lib.IntN.{ℤ, pos}
+use Rattle.std.specs.Bool.{MatchBool}
+use Rattle.std.specs.List.{AllWithin, HoldsAt, range_with_len}
+use Rattle.std.proofs.lemmas.List.FromFn.{length-range_with_len, get_or-range_with_len}
+use Rattle.definitions.specs.Prepared.{each_below, element_fault}
+use Rattle.definitions.proofs.Prepared.{each_passes, each_fails}
 
 -- ---- the fault of an element
 abbrev pub fault_at : List ℤ → ℕ → Bool
 fault_at elements k = element_fault (get_or elements k (pos 0))
 
--- where the code's first test finds it
-pub fault_above : (z : ℤ) → lt_z (pos (2 ^ 52)) z ≡ true → true ≡ element_fault z
-fault_above (pos m) e = sym e
-fault_above (negsuc m) e = absurd (true≢false (sym e))
+-- ---- the test of each number below n, by what `all` over them answers
+module _ (n : ℕ) (test : ℕ → Bool) where
+  abbrev pub Answered : Bool → ℕ → Type 0
+  Answered b k = k < n → test k ≡ b
 
--- by its second test, where the first does not
-pub fault_below : (z : ℤ) → lt_z (pos (2 ^ 52)) z ≡ false → lt_z z (negsuc (2 ^ 52 - 1)) ≡ element_fault z
-fault_below (pos m) e = sym e
-fault_below (negsuc m) e = sym (leb-suc-suc (2 ^ 52) m)
+  itself : (k : ℕ) → k < n → get_or (range_with_len 0 n) k 0 ≡ k
+  itself k below = get_or-range_with_len 0 n k 0 below ∙ omega arith
 
--- ---- two i64 are the same where their bits are
-pub same_bits : (x y : ℤ) → SFits w64 x → SFits w64 y → eqb (of_z w64 x) (of_z w64 y) ≡ same_integer x y
-same_bits x y fx fy = go (same_integer x y) refl
-  where
-    go : (t : Bool) → same_integer x y ≡ t → eqb (of_z w64 x) (of_z w64 y) ≡ t
-    go true e = eq-eqb (of_z w64 x) (of_z w64 y) (ap (of_z w64) (same_integer_lem x y e))
-    go false e = ne_eqb (of_z w64 x) (of_z w64 y) (λ q. true≢false (sym (integer_same x) ∙ ap (same_integer x) (sym (to_z-of_z w64 x fx) ∙ ap (to_z w64) q ∙ to_z-of_z w64 y fy) ∙ e))
+  pub each_tested : (r : Bool) → MatchBool r (AllWithin (Answered true) (range_with_len 0 n) 0 (length (range_with_len 0 n))) ((k : ℕ) × (k < length (range_with_len 0 n)) × HoldsAt (Answered false) (range_with_len 0 n) k) → r ≡ each_below n test
+  each_tested true all =
+      sym (each_passes n test (λ k below. let e = itself k below in ap test (sym e) ∙ all k 0 (omega arith) (omega (arith, length-range_with_len 0 n)) (omega (arith, e))))
+  each_tested false (k, within, fails) =
+      let below : k < n = omega (arith, length-range_with_len 0 n) in
+      let e = itself k below in
+      sym (each_fails n k test below (ap test (sym e) ∙ fails 0 (omega (arith, e))))

@@ -4,7 +4,6 @@ ghost use Rattle.definitions.specs.Block.{reals_of_part, integers_of_part, count
 ghost use Rattle.definitions.specs.Lent.{at_entry, at_exit};
 ghost use Rattle.parts.specs.Levels.{open_levels, reals_of, integers_behind, counts_of, ColumnsReady};
 
-use crate::filling::{clear_f64, clear_i64, clear_u64};
 use crate::layout::{
     CENTERS, DIMENSION, DOWNWARD, FOUND, LEVELS, NEAREST, NODES, OPEN, PARTIALS, REMAINDERS,
     STANDING, STEPS, UPWARD, WAITING,
@@ -14,10 +13,7 @@ use resume::Walk;
 fn flag_of(b: bool) -> u64
     ensures { result ≡ flag b }
 {
-    if b {
-        return 1;
-    }
-    0
+    if b { 1 } else { 0 }
 }
 
 // The doubles of a walk, behind table, target and radius.
@@ -25,18 +21,13 @@ pub fn write_reals(s: Walk, reals: &mut [f64])
     requires { ColumnsReady reals_of_part s reals.old }
     ensures { reals.new ≡ reals_of (take 576 reals.old) s }
 {
-    let start = STANDING;
-    clear_f64(&mut reals[start..]);
-    reals[start] = s.radius;
-    let count = s.count;
-    let mut i = 0;
-    while i < count {
-        let top = count - 1 - i;
-        let f = s.levels[top];
+    reals[STANDING..].fill(0.0);
+    reals[STANDING] = s.radius;
+    for i in 0..s.count {
+        let f = s.levels[s.count - 1 - i];
         reals[PARTIALS + i] = f.partial;
         reals[CENTERS + i] = f.center;
         reals[REMAINDERS + i] = f.remaining;
-        i += 1;
     }
 }
 
@@ -45,18 +36,11 @@ pub fn write_integers(s: Walk, integers: &mut [i64])
     requires { ColumnsReady integers_of_part s integers.old }
     ensures { integers.new ≡ integers_behind (take 46 integers.old) (open_levels s) }
 {
-    let start = NEAREST;
-    clear_i64(&mut integers[start..]);
-    let count = s.count;
-    let mut i = 0;
-    while i < count {
-        let top = count - 1 - i;
-        let f = s.levels[top];
-        let nearest = f.nearest;
-        let waiting = f.waiting;
-        integers[NEAREST + i] = nearest;
-        integers[WAITING + i] = waiting;
-        i += 1;
+    integers[NEAREST..].fill(0);
+    for i in 0..s.count {
+        let f = s.levels[s.count - 1 - i];
+        integers[NEAREST + i] = f.nearest;
+        integers[WAITING + i] = f.waiting;
     }
 }
 
@@ -65,20 +49,16 @@ pub fn write_counts(n: usize, s: Walk, counts: &mut [u64])
     requires { ColumnsReady counts_of_part s counts.old }
     ensures { counts.new ≡ counts_of n s }
 {
-    clear_u64(counts);
+    counts.fill(0);
     counts[DIMENSION] = n as u64;
     counts[NODES] = s.nodes;
     counts[FOUND] = flag_of(s.found);
-    let count = s.count;
-    counts[OPEN] = count as u64;
-    let mut i = 0;
-    while i < count {
-        let top = count - 1 - i;
-        let f = s.levels[top];
+    counts[OPEN] = s.count as u64;
+    for i in 0..s.count {
+        let f = s.levels[s.count - 1 - i];
         counts[LEVELS + i] = f.level as u64;
         counts[STEPS + i] = f.step;
         counts[UPWARD + i] = flag_of(f.positive_done);
         counts[DOWNWARD + i] = flag_of(f.negative_done);
-        i += 1;
     }
 }

@@ -22,20 +22,12 @@ pub fn levels_rise(counts: &[u64]) -> bool
     let most = 2 * counts[NODES] + 1;
     let open = counts[OPEN] as usize;
     let mut low = 0;
-    let mut i = 0;
-    while i < open {
+    for i in 0..open {
         let level = counts[LEVELS + i];
-        if level < low {
-            return false;
-        }
-        if level >= n {
-            return false;
-        }
-        if counts[STEPS + i] > most {
+        if level < low || level >= n || counts[STEPS + i] > most {
             return false;
         }
         low = level + 1;
-        i += 1;
     }
     true
 }
@@ -70,10 +62,8 @@ pub fn read_levels(
     let open = counts[OPEN] as usize;
     let lowest = read_level(reals, integers, counts, 0);
     let mut levels = [lowest; LARGEST_DIMENSION];
-    let mut i = 0;
-    while i < open {
+    for i in 0..open {
         levels[i] = read_level(reals, integers, counts, open - 1 - i);
-        i += 1;
     }
     levels
 }

@@ -15,10 +15,10 @@ mod levels;
 
 use columns::{write_counts, write_integers, write_reals};
 use definitions::{LARGEST_BUDGET, LARGEST_DIMENSION, LARGEST_SQUARE};
-use filling::{clear_f64, clear_i64, clear_u64, copy_padded, copy_places};
+use filling::{copy_padded, copy_places};
 use layout::{BEST, DIMENSION, FOUND, NEAREST, NODES, OPEN, STANDING};
 use levels::{levels_rise, read_levels};
-use lists::copy_i64;
+use lists::copy;
 use resume::Walk;
 
 // Whether the counts are those of a search that is not over, of at most 23 levels and 2^60 nodes. They may hold any
@@ -30,16 +30,7 @@ pub fn is_sound(counts: &[u64]) -> bool
     let n = counts[DIMENSION];
     let nodes = counts[NODES];
     let open = counts[OPEN];
-    if n > LARGEST_DIMENSION as u64 {
-        return false;
-    }
-    if nodes > LARGEST_BUDGET {
-        return false;
-    }
-    if open < 1 {
-        return false;
-    }
-    if open > n {
+    if n > LARGEST_DIMENSION as u64 || nodes > LARGEST_BUDGET || open < 1 || open > n {
         return false;
     }
     levels_rise(counts)
@@ -52,11 +43,11 @@ pub fn read_walk(reals: &[f64], integers: &[i64], counts: &[u64]) -> Walk
 {
     let n = counts[DIMENSION] as usize;
     let mut point = [0; LARGEST_DIMENSION];
-    copy_i64(integers, &mut point[..n]);
+    copy(integers, &mut point[..n]);
     let start = BEST;
     let end = start + n;
     let mut best = [0; LARGEST_DIMENSION];
-    copy_i64(&integers[start..end], &mut best[..n]);
+    copy(&integers[start..end], &mut best[..n]);
     let levels = read_levels(reals, integers, counts);
     Walk {
         point,
@@ -87,10 +78,7 @@ pub fn write_table(weights: &[f64], mu: &[f64], target: &[f64], radius: f64, rea
 fn best_size(found: bool, n: usize) -> usize
     ensures { result ≡ cond found n 0 }
 {
-    if found {
-        return n;
-    }
-    0
+    if found { n } else { 0 }
 }
 
 // Writes a walk of n levels that is not over, behind table, target and radius. Coordinates at and below the lowest open
@@ -114,7 +102,7 @@ pub fn write_walk(n: usize, s: Walk, reals: &mut [f64], integers: &mut [i64], co
 pub fn clear(reals: &mut [f64], integers: &mut [i64], counts: &mut [u64])
     ensures { Holds (zeros (block reals.old integers.old counts.old)) reals.new integers.new counts.new }
 {
-    clear_f64(reals);
-    clear_i64(integers);
-    clear_u64(counts);
+    reals.fill(0.0);
+    integers.fill(0);
+    counts.fill(0);
 }

@@ -1,7 +1,7 @@
 // The nearest search in the receiver's coordinates: over a table of reduced ones, with the matrices between the two.
 #![tactic(auto)]
 
-ghost use Rattle.std.specs.Prelude.{◌≡◌, length};
+ghost use Rattle.std.specs.Prelude.{◌≡◌, Ok, length};
 ghost use Rattle.definitions.specs.Table.{largest_dimension};
 ghost use Rattle.definitions.specs.Checks.{first_refusal};
 ghost use Rattle.definitions.specs.Prepared as P;
@@ -13,10 +13,9 @@ ghost use Rattle.prepared.specs.Searched.{searched_at};
 
 use checks::{table_check, target_budget_check, target_output_check};
 use definitions::LARGEST_DIMENSION;
-use enumerate::NearestAnswer;
-use lists::copy_i64;
+use enumerate::NearestPoint;
 use matrices::{map_point, matrix_check, transform_target};
-use refusals::Verdict;
+use refusals::Refusal;
 use seeded::ml_search;
 
 // 2 to 5, 22 and 23, 6 of the target and of the output, then 7 of the given target.
@@ -27,42 +26,30 @@ fn given_check(
     inverse: &[i64],
     target: &[f64],
     out: &[i64],
-) -> Verdict
+) -> Result<(), Refusal>
     ensures { verdict result ≡ first_refusal (P.given_checks largest_dimension (table_at weights mu) (at_entry transform) (at_entry inverse) (at_entry target) (at_entry out)) }
 {
-    let table = table_check(LARGEST_DIMENSION, weights, mu);
-    if let Verdict::Refuse(_) = table {
-        return table;
-    }
+    table_check(LARGEST_DIMENSION, weights, mu)?;
     let n = weights.len();
-    let matrices = matrix_check(n, transform, inverse);
-    if let Verdict::Refuse(_) = matrices {
-        return matrices;
-    }
+    matrix_check(n, transform, inverse)?;
     target_output_check(n, target, out)
 }
 
-// The answer of a search over the table with its point mapped to out, or 24.
+// The answer of a search over the table that found a point, with that point mapped to out, or 24.
 fn mapped_answer(
     transform: &[i64],
     point: &[i64],
-    answer: NearestAnswer,
+    found: NearestPoint,
     out: &mut [i64],
-) -> NearestAnswer
+) -> Result<NearestPoint, Refusal>
     requires { MapShaped transform.now point.now out.old }
-    ensures { NearestAnswered (P.mapped_answer (length out.old) (at_entry transform) (nearest_answer answer (at_entry point))) out.old result out.new }
+    ensures { NearestAnswered (P.mapped_answer (length out.old) (at_entry transform) (nearest_answer (Ok found) (at_entry point))) out.old result out.new }
 {
-    if let NearestAnswer::Refused(_) = answer {
-        return answer;
-    }
     let n = out.len();
     let mut mapped = [0i64; LARGEST_DIMENSION];
-    let inside = map_point(transform, point, &mut mapped[..n]);
-    if let Verdict::Refuse(e) = inside {
-        return NearestAnswer::Refused(e);
-    }
-    copy_i64(&mapped, out);
-    answer
+    map_point(transform, point, &mut mapped[..n])?;
+    out.copy_from_slice(&mapped[..n]);
+    Ok(found)
 }
 
 // 7 of the transformed target and 9, then the search of `nearest_ml` there, its point mapped to out.
@@ -76,17 +63,14 @@ fn transformed_search(
     budget: u64,
     transformed: &mut [f64],
     point: &mut [i64],
-) -> NearestAnswer
+) -> Result<NearestPoint, Refusal>
     requires { PreparedShaped weights.now mu.now transform.now inverse.now target.now out.old transformed.old point.old }
     ensures { NearestAnswered (searched_at (table_at weights mu) (at_entry transform) (P.transformed_of (table_at weights mu) (at_entry inverse) (at_entry target)) budget) out.old result out.new }
 {
     transform_target(inverse, target, transformed);
-    let checked = target_budget_check(transformed, budget);
-    if let Verdict::Refuse(e) = checked {
-        return NearestAnswer::Refused(e);
-    }
-    let answer = ml_search(weights, mu, transformed, point, budget);
-    mapped_answer(transform, point, answer, out)
+    target_budget_check(transformed, budget)?;
+    let found = ml_search(weights, mu, transformed, point, budget)?;
+    mapped_answer(transform, point, found, out)
 }
 
 // Finds the nearest integer vector to a target in the receiver's coordinates, and writes it in them: the search is that of
@@ -105,13 +89,10 @@ pub fn prepared_nearest_ml(
     target: &[f64],
     out: &mut [i64],
     budget: u64,
-) -> NearestAnswer
+) -> Result<NearestPoint, Refusal>
     ensures { NearestAnswered (P.prepared_nearest_ml (table_at weights mu) (at_entry transform) (at_entry inverse) (at_entry target) out.old budget) out.old result out.new }
 {
-    let checked = given_check(weights, mu, transform, inverse, target, out);
-    if let Verdict::Refuse(e) = checked {
-        return NearestAnswer::Refused(e);
-    }
+    given_check(weights, mu, transform, inverse, target, out)?;
     let n = weights.len();
     let mut transformed = [0.0; LARGEST_DIMENSION];
     let mut point = [0i64; LARGEST_DIMENSION];

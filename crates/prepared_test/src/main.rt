@@ -8,9 +8,7 @@
 // refusals 2 to 5, 9, 22 and 23, which the Rust has not, are the specification's.
 #![tactic(auto)]
 
-use enumerate::NearestAnswer;
 use printing::values::*;
-use refusals::Verdict;
 
 // 2^42, 2^44 and 2^52.
 const TWO_42: f64 = 4398046511104.0;
@@ -32,8 +30,8 @@ fn prepared(
     printing::word(name);
     let a = prepared::prepared_nearest_ml(weights, mu, transform, inverse, target, out, budget);
     match a {
-        NearestAnswer::Found(point) => printing::found(point.nodes, point.distance),
-        NearestAnswer::Refused(e) => printing::verdict(Verdict::Refuse(e)),
+        Ok(point) => printing::found(point.nodes, point.distance),
+        Err(e) => printing::verdict(Err(e)),
     }
     printing::integers(out);
     printing::newline();
@@ -399,29 +397,9 @@ fn outside() {
 // The identity with k at 506, 517 and 527, in the last row.
 fn last_row(k: i64) -> [i64; 529] {
     let mut matrix = [0i64; 529];
-    matrix[0] = 1;
-    matrix[24] = 1;
-    matrix[48] = 1;
-    matrix[72] = 1;
-    matrix[96] = 1;
-    matrix[120] = 1;
-    matrix[144] = 1;
-    matrix[168] = 1;
-    matrix[192] = 1;
-    matrix[216] = 1;
-    matrix[240] = 1;
-    matrix[264] = 1;
-    matrix[288] = 1;
-    matrix[312] = 1;
-    matrix[336] = 1;
-    matrix[360] = 1;
-    matrix[384] = 1;
-    matrix[408] = 1;
-    matrix[432] = 1;
-    matrix[456] = 1;
-    matrix[480] = 1;
-    matrix[504] = 1;
-    matrix[528] = 1;
+    for i in 0..23 {
+        matrix[24 * i] = 1;
+    }
     matrix[506] = k;
     matrix[517] = k;
     matrix[527] = k;

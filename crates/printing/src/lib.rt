@@ -4,7 +4,7 @@
 
 pub mod values;
 
-use refusals::{Refusal, Verdict, numbers};
+use refusals::{Carried, Refusal};
 
 // Writes `text` as it is.
 pub fn word(text: &[u8]) {
@@ -18,13 +18,10 @@ pub fn newline() {
 
 // Writes n in decimal, with no space before it.
 pub fn decimal(n: i64) {
-    if n >= 0 {
-        io::print_decimal(1, n as u64);
-        return;
+    if n < 0 {
+        word(b"-");
     }
-    // -n does not fit at i64::MIN, so this negates n + 1
-    word(b"-");
-    io::print_decimal(1, ((0 - (n + 1)) as u64) + 1);
+    io::print_decimal(1, n.unsigned_abs());
 }
 
 // Writes the 16 hexadecimal digits of x's bits, or `nan`, with no space before them.
@@ -73,10 +70,8 @@ pub fn truth(b: bool) {
 // Writes the integers in square brackets, with a space before each integer and each bracket.
 pub fn integers(values: &[i64]) {
     word(b" [");
-    let mut i = 0;
-    while i < values.len() {
-        integer(values[i]);
-        i += 1;
+    for x in values {
+        integer(*x);
     }
     word(b" ]");
 }
@@ -84,17 +79,15 @@ pub fn integers(values: &[i64]) {
 // Writes the doubles' bits, or `nan`, in square brackets, with a space before each double and each bracket.
 pub fn doubles(values: &[f64]) {
     word(b" [");
-    let mut i = 0;
-    while i < values.len() {
-        double(values[i]);
-        i += 1;
+    for x in values {
+        double(*x);
     }
     word(b" ]");
 }
 
 // Writes a refusal's number and, in brackets, what it carries: its whole numbers, then its double.
 fn refusal(e: Refusal) {
-    let n = numbers(e);
+    let n = Carried::from(e);
     word(b" ");
     io::print_decimal(1, n.number as u64);
     word(b"(");
@@ -105,19 +98,19 @@ fn refusal(e: Refusal) {
         word(b", ");
         io::print_decimal(1, n.second);
     }
-    if n.has_real {
+    if let Some(real) = n.real {
         if n.wholes > 0 {
             word(b", ");
         }
-        bits(n.real);
+        bits(real);
     }
     word(b")");
 }
 
 // Writes a space and `pass`, or the refusal's number and, in brackets, what it carries.
-pub fn verdict(v: Verdict) {
+pub fn verdict(v: Result<(), Refusal>) {
     match v {
-        Verdict::Pass => word(b" pass"),
-        Verdict::Refuse(e) => refusal(e),
+        Ok(()) => word(b" pass"),
+        Err(e) => refusal(e),
     }
 }

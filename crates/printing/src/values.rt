@@ -81,10 +81,8 @@ fn read_or_nan(entry: f64, k: usize, n: usize) -> f64 {
 
 // Makes every entry of a mu of dimension n that is not read NaN.
 pub fn hide_unread(mu: &mut [f64], n: usize) {
-    let mut k = 0;
-    while k < mu.len() {
-        mu[k] = read_or_nan(mu[k], k, n);
-        k += 1;
+    for (k, entry) in mu.iter_mut().enumerate() {
+        *entry = read_or_nan(*entry, k, n);
     }
 }
 
@@ -102,11 +100,7 @@ pub fn mu_of_24(entries: [f64; 4]) -> [f64; 576] {
 // A target of dimension 24: its first coordinates, and 0 elsewhere.
 pub fn target_of_24(first: [f64; 5]) -> [f64; 24] {
     let mut target = [0.0; 24];
-    target[0] = first[0];
-    target[1] = first[1];
-    target[2] = first[2];
-    target[3] = first[3];
-    target[4] = first[4];
+    target[0..5].copy_from_slice(&first);
     target
 }
 

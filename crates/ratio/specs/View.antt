@@ -1,13 +1,12 @@
 -- What the code's verdict and its answer stand for. Definitions only.
-use Rattle.std.specs.Prelude.{ℕ}
+use Rattle.std.specs.Prelude.{ℕ, Result, Ok, Err}
 use Rattle.definitions.specs.Calls.{Answer, found, refused}
 use Rattle.definitions.specs.Settings.{Settings}
 use Rattle.definitions.specs.Ratio as D
+use Rattle.refusals.specs.declared.Refusal.{Refusal}
 use Rattle.refusals.specs.Numbers.{numbered}
 use Rattle.ratio.specs.declared.Ratio.{Ratio}
 use Rattle.ratio.specs.declared.Ratio.TheVariants.{Holds, Fails, Open, None}
-use Rattle.ratio.specs.declared.RatioAnswer.{RatioAnswer}
-use Rattle.ratio.specs.declared.RatioAnswer.TheVariants.{Found, Refused}
 
 abbrev pub settings_of : ℕ → ℕ → ℕ → Settings
 settings_of p q places = record { p = p; q = q; places = places }
@@ -18,6 +17,6 @@ verdict_of Fails = D.fails
 verdict_of Open = D.«open»
 verdict_of None = D.none
 
-abbrev pub answer_of : RatioAnswer → Answer D.Ratio
-answer_of (Found r) = found (verdict_of r)
-answer_of (Refused e) = refused (numbered e)
+abbrev pub answer_of : Result Ratio Refusal → Answer D.Ratio
+answer_of (Ok r) = found (verdict_of r)
+answer_of (Err e) = refused (numbered e)

@@ -9,7 +9,7 @@ ghost use Rattle.ratio.specs.View.{verdict_of, answer_of};
 
 pub mod settings;
 
-use refusals::{Refusal, Verdict};
+use refusals::Refusal;
 use rounding::is_finite;
 use settings::factors_check;
 
@@ -25,14 +25,8 @@ pub enum Ratio {
     None,
 }
 
-// The answer of `ratio_of`.
-#[derive(Clone, Copy)]
-pub enum RatioAnswer {
-    Found(Ratio),
-    Refused(Refusal),
-}
-
 // k·d, rounded once.
+#[tactic(auto, unfolding(definitions::specs::Ratio::times))]
 fn times(k: u64, d: f64) -> f64
     requires { k ≤ largest_factor }
     ensures { result ≡ D.times k d }
@@ -41,45 +35,47 @@ fn times(k: u64, d: f64) -> f64
 }
 
 // Whether q·d2 is at least p·d1, which must not overflow.
+#[tactic(auto, unfolding(definitions::specs::Ratio::met))]
 fn met(p: u64, q: u64, d1: f64, d2: f64) -> bool
     requires { FactorsInRange p q }
     ensures { result ≡ D.met p q d1 d2 }
 {
     let least = times(p, d1);
-    if is_finite(least) {
-        return least <= times(q, d2);
-    }
-    false
+    is_finite(least) && least <= times(q, d2)
 }
 
 // The verdict by the distances that a list at the radius wrote, with factors that pass their check.
+#[tactic(auto, unfolding(definitions::specs::Ratio::ratio))]
 pub fn verdict(distances: &[f64], radius: f64, p: u64, q: u64) -> Ratio
     requires { FactorsInRange p q }
     ensures { verdict_of result ≡ D.ratio p q (at_entry distances) radius }
 {
-    if distances.len() == 0 {
-        return Ratio::None;
-    }
-    if distances.len() == 1 {
-        if met(p, q, distances[0], radius) {
-            return Ratio::Holds;
+    match distances {
+        [] => Ratio::None,
+        [d1] => {
+            if met(p, q, *d1, radius) {
+                Ratio::Holds
+            } else {
+                Ratio::Open
+            }
         }
-        return Ratio::Open;
+        [d1, d2, ..] => {
+            if met(p, q, *d1, *d2) {
+                Ratio::Holds
+            } else {
+                Ratio::Fails
+            }
+        }
     }
-    if met(p, q, distances[0], distances[1]) {
-        return Ratio::Holds;
-    }
-    Ratio::Fails
 }
 
 // The verdict by the distances that a list at the radius wrote, or by any others.
 //
 // Refused: 21.
-pub fn ratio_of(distances: &[f64], radius: f64, p: u64, q: u64) -> RatioAnswer
+#[tactic(auto, unfolding(definitions::specs::Ratio::ratio_call, definitions::specs::Calls::after))]
+pub fn ratio_of(distances: &[f64], radius: f64, p: u64, q: u64) -> Result<Ratio, Refusal>
     ensures { answer_of result ≡ D.ratio_call p q (at_entry distances) radius }
 {
-    match factors_check(p, q) {
-        Verdict::Refuse(e) => RatioAnswer::Refused(e),
-        Verdict::Pass => RatioAnswer::Found(verdict(distances, radius, p, q)),
-    }
+    factors_check(p, q)?;
+    Ok(verdict(distances, radius, p, q))
 }

@@ -5,45 +5,37 @@ ghost use Rattle.refusals.specs.Numbers.{verdict};
 ghost use Rattle.ratio.specs.View.{settings_of};
 
 use definitions::{LARGEST_FACTOR, LARGEST_PLACES};
-use refusals::{Refusal, Verdict};
+use refusals::Refusal;
 
 // Whether a setting is not from 1 to its limit.
 fn outside(limit: u64, setting: u64) -> bool
     ensures { result ≡ D.outside limit setting }
 {
-    if setting < 1 {
-        return true;
-    }
-    limit < setting
+    setting < 1 || limit < setting
 }
 
 // 21 of the ratio's factors: p out of range or below q (0), then q out of range (1).
-pub fn factors_check(p: u64, q: u64) -> Verdict
+#[tactic(auto, using(definitions::proofs::Settings::factors_are))]
+pub fn factors_check(p: u64, q: u64) -> Result<(), Refusal>
     ensures { verdict result ≡ D.factors_check p q }
 {
-    if outside(LARGEST_FACTOR, p) {
-        return Verdict::Refuse(Refusal::SettingRange(0));
-    }
-    if p < q {
-        return Verdict::Refuse(Refusal::SettingRange(0));
+    if outside(LARGEST_FACTOR, p) || p < q {
+        return Err(Refusal::SettingRange(0));
     }
     if outside(LARGEST_FACTOR, q) {
-        return Verdict::Refuse(Refusal::SettingRange(1));
+        return Err(Refusal::SettingRange(1));
     }
-    Verdict::Pass
+    Ok(())
 }
 
 // 21 of a job's settings: the factors, then the list's places (2).
-pub fn settings_check(p: u64, q: u64, places: u64) -> Verdict
+#[tactic(auto, using(definitions::proofs::Settings::settings_are))]
+pub fn settings_check(p: u64, q: u64, places: u64) -> Result<(), Refusal>
     ensures { verdict result ≡ D.settings_check (settings_of p q places) }
 {
-    match factors_check(p, q) {
-        Verdict::Refuse(e) => Verdict::Refuse(e),
-        Verdict::Pass => {
-            if outside(LARGEST_PLACES as u64, places) {
-                return Verdict::Refuse(Refusal::SettingRange(2));
-            }
-            return Verdict::Pass;
-        }
+    factors_check(p, q)?;
+    if outside(LARGEST_PLACES as u64, places) {
+        return Err(Refusal::SettingRange(2));
     }
+    Ok(())
 }

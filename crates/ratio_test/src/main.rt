@@ -10,8 +10,8 @@
 use printing::values::{LARGEST, SMALLEST, infinity, nan};
 use printing::{newline, verdict, word};
 use ratio::settings::settings_check;
-use ratio::{Ratio, RatioAnswer, ratio_of};
-use refusals::Verdict;
+use ratio::{Ratio, ratio_of};
+use refusals::Refusal;
 
 fn say_ratio(said: Ratio) {
     match said {
@@ -22,11 +22,11 @@ fn say_ratio(said: Ratio) {
     }
 }
 
-fn say(name: &[u8], answer: RatioAnswer) {
+fn say(name: &[u8], answer: Result<Ratio, Refusal>) {
     word(name);
     match answer {
-        RatioAnswer::Found(said) => say_ratio(said),
-        RatioAnswer::Refused(e) => verdict(Verdict::Refuse(e)),
+        Ok(said) => say_ratio(said),
+        Err(e) => verdict(Err(e)),
     }
     newline();
 }

@@ -1,5 +1,5 @@
 -- What the code's sections and its job stand for. Definitions only.
-use Rattle.std.specs.Prelude.{ℕ, ◌+◌, ◌*◌, ◌≤◌, ◌<◌, Bool, ◌&&◌, cond, List, ◌≡◌, T, leb, ltb, eqb, length, get_or, take}
+use Rattle.std.specs.Prelude.{Result, Ok, Err, IfOk, ℕ, ◌+◌, ◌*◌, ◌≤◌, ◌<◌, Bool, ◌&&◌, cond, List, ◌≡◌, T, leb, ltb, eqb, length, get_or, take}
 use Rattle.std.specs.Float.{binary64, nan}
 use Rattle.std.specs.Float.Ieee.{fits, of_bits}
 use Rattle.definitions.specs.Table.{table, largest_dimension}
@@ -7,9 +7,7 @@ use Rattle.definitions.specs.Settings.{Settings, defaults}
 use Rattle.definitions.specs.JobLayout.{items, section_fault, number_at, items_at, doubles, triangle, mu_rows, job, layout_fault}
 use Rattle.definitions.specs.JobLayout as D
 use Rattle.reading.specs.declared.Section.{Section}
-use Rattle.reading.specs.declared.Section.TheVariants.{Items, Fault}
-use Rattle.reading.specs.declared.Layout.{Layout}
-use Rattle.reading.specs.declared.Layout.TheVariants as L
+use Rattle.reading.specs.declared.LayoutFault.{LayoutFault}
 use Rattle.reading.specs.declared.Settings.{Settings as Read}
 use Rattle.reading.specs.declared.Job.{Job}
 
@@ -20,27 +18,34 @@ abbrev pub within : ℕ → ℕ → ℕ → Bool
 within low high count = leb low count && leb count high
 
 -- a section as the code knows it: the number of its items, and where it ends
-abbrev pub section_of : D.Section → Section
-section_of (items xs end) = Items (length xs) end
-section_of (section_fault value) = Fault value
+abbrev pub items_to : ℕ → ℕ → Result Section LayoutFault
+items_to n end = Ok (record { count = n; end = end })
+
+-- a fault, with the value of refusal 1
+abbrev pub fault : {A : Type 0} → ℕ → Result A LayoutFault
+fault value = Err (record { value = value })
+
+abbrev pub section_of : D.Section → Result Section LayoutFault
+section_of (items xs end) = items_to (length xs) end
+section_of (section_fault value) = fault value
 
 -- the section after another, by its count; a fault stays
-abbrev pub next_section : List ℕ → ℕ → Section → Section
-next_section input count (Items n end) = section_of (D.section input (eqb count) end)
-next_section input count (Fault value) = Fault value
+abbrev pub next_section : List ℕ → ℕ → Result Section LayoutFault → Result Section LayoutFault
+next_section input count (Ok s) = section_of (D.section input (eqb count) s.end)
+next_section input count (Err e) = Err e
 
 -- the settings' section after another, given or not; a fault stays
-abbrev pub next_settings : List ℕ → Section → Section
-next_settings input (Items n end) = section_of (D.settings_section input end)
-next_settings input (Fault value) = Fault value
+abbrev pub next_settings : List ℕ → Result Section LayoutFault → Result Section LayoutFault
+next_settings input (Ok s) = section_of (D.settings_section input s.end)
+next_settings input (Err e) = Err e
 
 -- a section ends within the input
-abbrev pub EndsWithin : List ℕ → Section → Type 0
-EndsWithin input (Items count end) = end ≤ length input
-EndsWithin input (Fault value) = Unit {0}
+abbrev pub EndsWithin : List ℕ → Result Section LayoutFault → Type 0
+EndsWithin input (Ok s) = s.end ≤ length input
+EndsWithin input (Err e) = Unit {0}
 
 -- a section that is s
-pub record SectionIs (input : List ℕ) (s r : Section) : Type 0 where
+pub record SectionIs (input : List ℕ) (s r : Result Section LayoutFault) : Type 0 where
   pub means : r ≡ s
   pub ends : EndsWithin input r
 
@@ -67,9 +72,9 @@ abbrev pub settings_at : ℕ → ℕ
 settings_at n = section_end (budget_at n) 1
 
 -- the layout by its last section: bytes after it are a fault, whose value is the offset of the first
-abbrev pub layout_by_last : List ℕ → ℕ → Section → Layout
-layout_by_last input n (Items count end) = cond (ltb end (length input)) (L.Fault end) (L.Whole n)
-layout_by_last input n (Fault value) = L.Fault value
+abbrev pub layout_by_last : List ℕ → ℕ → Result Section LayoutFault → Result ℕ LayoutFault
+layout_by_last input n (Ok s) = cond (ltb s.end (length input)) (fault s.end) (Ok n)
+layout_by_last input n (Err e) = Err e
 
 -- the settings of a section at an offset, or the default ones where no bytes are left
 abbrev pub settings_in : List ℕ → ℕ → Settings
@@ -92,9 +97,9 @@ job_at input n =
     }
 
 -- a layout as the definitions have it
-abbrev pub layout_of : List ℕ → Layout → D.Layout
-layout_of input (L.Whole n) = job (job_at input n)
-layout_of input (L.Fault value) = layout_fault value
+abbrev pub layout_of : List ℕ → Result ℕ LayoutFault → D.Layout
+layout_of input (Ok n) = job (job_at input n)
+layout_of input (Err e) = layout_fault e.value
 
 -- n is within its limit, and the input has the bytes of a job of n weights
 pub record JobBytes (input : List ℕ) (n : ℕ) : Type 0 where
@@ -103,12 +108,12 @@ pub record JobBytes (input : List ℕ) (n : ℕ) : Type 0 where
   pub settings : SettingsWithin input (settings_at n)
 
 -- of a whole layout
-abbrev pub Sized : List ℕ → Layout → Type 0
-Sized input (L.Whole n) = JobBytes input n
-Sized input (L.Fault value) = Unit {0}
+abbrev pub Sized : List ℕ → Result ℕ LayoutFault → Type 0
+Sized input (Ok n) = JobBytes input n
+Sized input (Err e) = Unit {0}
 
 -- a layout that stands for l
-pub record LayoutIs (input : List ℕ) (l : D.Layout) (r : Layout) : Type 0 where
+pub record LayoutIs (input : List ℕ) (l : D.Layout) (r : Result ℕ LayoutFault) : Type 0 where
   pub means : layout_of input r ≡ l
   pub size : Sized input r
 
@@ -130,8 +135,9 @@ job_read j =
     }
 
 -- what was read, as the definitions' layout
-abbrev pub layout_read : Job → D.Layout
-layout_read j = cond j.whole (job (job_read j)) (layout_fault j.fault)
+abbrev pub layout_read : Result Job LayoutFault → D.Layout
+layout_read (Ok j) = job (job_read j)
+layout_read (Err e) = layout_fault e.value
 
 -- n is within its limit, the arrays have their lengths, and the weights are doubles
 pub record JobShape (j : Job) : Type 0 where
@@ -141,7 +147,7 @@ pub record JobShape (j : Job) : Type 0 where
   pub target : length j.target ≡ largest_dimension
   pub doubles : (i : ℕ) → T (fits binary64 (get_or (take j.n j.weights) i nan))
 
--- a job that stands for l
-pub record JobIs (l : D.Layout) (j : Job) : Type 0 where
-  pub means : layout_read j ≡ l
-  pub shape : JobShape j
+-- what was read stands for l, and a job has its shape
+pub record JobIs (l : D.Layout) (r : Result Job LayoutFault) : Type 0 where
+  pub means : layout_read r ≡ l
+  pub shape : IfOk r JobShape

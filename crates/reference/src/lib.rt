@@ -9,16 +9,13 @@ ghost use Rattle.definitions.specs.Lent.{at_entry, at_exit};
 ghost use Rattle.refusals.specs.Numbers.{verdict};
 ghost use Rattle.reference.specs.Answers.{ChangeAnswered};
 
-use refusals::{Refusal, Verdict};
+use refusals::Refusal;
 
-// Whether a - b is an i64. The end that it could pass is moved by b, which does not leave i64, and compared with a.
+// Whether a - b is an i64.
 fn difference_fits(a: i64, b: i64) -> bool
     ensures { result ≡ is_i64 (a -ℤ b) }
 {
-    if b < 0 {
-        return a <= 9223372036854775807 + b;
-    }
-    a >= -9223372036854775808 + b
+    a.checked_sub(b).is_some()
 }
 
 // What a(r) is subtracted from: a(i), and 0 in r's own place.
@@ -26,49 +23,44 @@ fn minuend(point: &[i64], r: usize, i: usize) -> i64
     requires { i < length point.now }
     ensures { result ≡ cond (eqb i r) (pos 0) (cycles (at_entry point) i) }
 {
-    if i == r {
-        return 0;
-    }
-    point[i]
+    if i == r { 0 } else { point[i] }
 }
 
 // 20: a coordinate that becomes no i64 (first index).
-fn changed_range_check(point: &[i64], r: usize) -> Verdict
+fn changed_range_check(point: &[i64], r: usize) -> Result<(), Refusal>
     requires { r < length point.now }
     ensures { verdict result ≡ changed_range_check (at_entry point) r }
 {
     let subtrahend = point[r];
-    let mut i = 0;
-    while i < point.len() {
+    for i in 0..point.len() {
         if !difference_fits(minuend(point, r, i), subtrahend) {
-            return Verdict::Refuse(Refusal::ChangedRange(i));
+            return Err(Refusal::ChangedRange(i));
         }
-        i += 1;
     }
-    Verdict::Pass
+    Ok(())
 }
 
 // 19, r not below the length; then 20, once there is an a(r).
-fn change_check(point: &[i64], r: usize) -> Verdict
+#[tactic(auto, using(definitions::proofs::References::index_outside, definitions::proofs::References::index_inside))]
+fn change_check(point: &[i64], r: usize) -> Result<(), Refusal>
     ensures { verdict result ≡ first_refusal (checks_of_change (at_entry point) r) }
 {
     if r >= point.len() {
-        return Verdict::Refuse(Refusal::ReferenceIndex);
+        return Err(Refusal::ReferenceIndex);
     }
     changed_range_check(point, r)
 }
 
 // Changes each coordinate. a(r) is kept from before the first of them, since its own place changes too.
+#[tactic(auto, using(definitions::proofs::References::point_changed))]
 fn change_all(point: &mut [i64], r: usize)
     requires { Accepted point.old r }
     ensures { point.new ≡ changed_point point.old r }
 {
     let subtrahend = point[r];
-    let mut i = 0;
-    while i < point.len() {
+    for i in 0..point.len() {
         let own = minuend(point, r, i);
         point[i] = own - subtrahend;
-        i += 1;
     }
 }
 
@@ -77,13 +69,11 @@ fn change_all(point: &mut [i64], r: usize)
 //
 // Refused: 19, r not below the length; 20, a coordinate that becomes no i64 (first index). A refusal leaves the point as
 // it was.
-pub fn change_reference(point: &mut [i64], r: usize) -> Verdict
+#[tactic(auto, using(definitions::proofs::References::change_accepted), unfolding(definitions::specs::Reference::change_reference, definitions::specs::Reference::change_output))]
+pub fn change_reference(point: &mut [i64], r: usize) -> Result<(), Refusal>
     ensures { ChangeAnswered point.old r result point.new }
 {
-    let checked = change_check(point, r);
-    if let Verdict::Refuse(_) = checked {
-        return checked;
-    }
+    change_check(point, r)?;
     change_all(point, r);
-    Verdict::Pass
+    Ok(())
 }

@@ -1,2 +1,3 @@
 -- Laws about the refusals.
 pub mod FreeNumber
+pub mod Early

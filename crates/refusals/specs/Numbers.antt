@@ -1,13 +1,10 @@
 -- The number and values of each case of the code's `Refusal`, as the code tells them, and the verdict of a check. Definitions only.
-use Rattle.std.specs.Prelude.{ℕ, Bool, true, false, List, [], ◌∷◌, length, get_or, Float}
-use Rattle.definitions.specs.Table.{plus_zero}
+use Rattle.std.specs.Prelude.{⊤, Option, Some, None, Result, Ok, Err, ℕ, List, [], ◌∷◌, length, get_or, Float}
 use Rattle.definitions.specs.Refusals as D
-use Rattle.definitions.specs.Checks.{Verdict as DVerdict, pass, refuse}
+use Rattle.definitions.specs.Checks.{Verdict, pass, refuse}
 use Rattle.refusals.specs.declared.Refusal.{Refusal}
 use Rattle.refusals.specs.declared.Refusal.TheVariants.{TableSize, MuNonFinite, MuRange, WeightRange, LengthMismatch, NonFinite, InvalidRadius, BudgetRange, CandidateLength, CandidateDistance, CandidateOutside, WidenedRadius, ListSize, BudgetExhausted, OutsideRadius, ListFull, ReferenceIndex, ChangedRange, SettingRange, MatrixRange, NotInverse, MappedRange, NameRange, NameEmpty, SumRange, SliceRange, NoneHeld, EpochsSize}
 use Rattle.refusals.specs.declared.Carried.{Carried}
-use Rattle.refusals.specs.declared.Verdict.{Verdict}
-use Rattle.refusals.specs.declared.Verdict.TheVariants.{Pass, Refuse}
 
 -- each case of the enum as the specification's refusal, with its number and values
 abbrev pub numbered : Refusal → D.Refusal
@@ -41,9 +38,9 @@ numbered NoneHeld = D.none_held
 numbered EpochsSize = D.epochs_size
 
 -- what a check says, as the definitions' verdict
-abbrev pub verdict : Verdict → DVerdict
-verdict Pass = pass
-verdict (Refuse e) = refuse (numbered e)
+abbrev pub verdict : Result ⊤ Refusal → Verdict
+verdict (Ok _) = pass
+verdict (Err e) = refuse (numbered e)
 
 -- ---- the values, by their kinds
 
@@ -53,23 +50,17 @@ wholes_of [] = []
 wholes_of (D.whole n ∷ values) = n ∷ wholes_of values
 wholes_of (D.real x ∷ values) = wholes_of values
 
--- whether there is a double
-abbrev pub has_real : List D.Value → Bool
-has_real [] = false
-has_real (D.whole n ∷ values) = has_real values
-has_real (D.real x ∷ values) = true
-
--- the double, or plus zero
-abbrev pub real_of : List D.Value → Float
-real_of [] = plus_zero
+-- the double, if there is one
+abbrev pub real_of : List D.Value → Option Float
+real_of [] = None
 real_of (D.whole n ∷ values) = real_of values
-real_of (D.real x ∷ values) = x
+real_of (D.real x ∷ values) = Some x
 
-abbrev pub carrying : ℕ → ℕ → ℕ → ℕ → Bool → Float → Carried
-carrying number wholes first second has_real real = record { number = number; wholes = wholes; first = first; second = second; has_real = has_real; real = real }
+abbrev pub carrying : ℕ → ℕ → ℕ → ℕ → Option Float → Carried
+carrying number wholes first second real = record { number = number; wholes = wholes; first = first; second = second; real = real }
 
--- a refusal as the code tells it, with 0 for what it does not carry
+-- a refusal as the code tells it, with 0 for the whole numbers that it does not carry
 abbrev pub carried_by : D.Refusal → Carried
 carried_by e =
     let wholes = wholes_of e.values in
-    carrying e.number (length wholes) (get_or wholes 0 0) (get_or wholes 1 0) (has_real e.values) (real_of e.values)
+    carrying e.number (length wholes) (get_or wholes 0 0) (get_or wholes 1 0) (real_of e.values)

@@ -1,10 +1,9 @@
-// The numbered refusals of the library's calls, with what each carries, and the one function that takes them apart. Number 1
-// belongs to the job program. specs/Numbers.antt gives each case's number and values.
+// The numbered refusals of the library's calls, with what each carries, and the one function that takes them apart. A check gives
+// `Ok(())` or `Err` of one of them. Number 1 belongs to the job program. specs/Numbers.antt gives each case's number and values.
 #![tactic(auto)]
 
-ghost use Rattle.std.specs.Prelude.{◌≡◌, true, false};
+ghost use Rattle.std.specs.Prelude.{◌≡◌};
 ghost use Rattle.refusals.specs.Numbers.{numbered, carried_by, carrying};
-ghost use Rattle.definitions.specs.Table.{plus_zero};
 
 #[derive(Clone, Copy)]
 pub enum Refusal {
@@ -67,127 +66,118 @@ pub enum Refusal {
     EpochsSize,
 }
 
-// What a check says.
-#[derive(Clone, Copy)]
-pub enum Verdict {
-    Pass,
-    Refuse(Refusal),
-}
-
-// A refusal as numbers: which it is, its whole numbers in their order and how many they are, and its double and whether it
-// has one. What it does not carry is 0.
+// A refusal as numbers: which it is, its whole numbers in their order and how many they are, and its double, if it has one.
+// A whole number that it does not carry is 0.
 #[derive(Clone, Copy)]
 pub struct Carried {
     pub number: u32,
     pub wholes: u32,
     pub first: u64,
     pub second: u64,
-    pub has_real: bool,
-    pub real: f64,
+    pub real: Option<f64>,
 }
 
 // Nothing beside the number.
 fn nothing(number: u32) -> Carried
-    ensures { result ≡ carrying number 0 0 0 false plus_zero }
+    ensures { result ≡ carrying number 0 0 0 None }
 {
     Carried {
         number,
         wholes: 0,
         first: 0,
         second: 0,
-        has_real: false,
-        real: 0.0,
+        real: None,
     }
 }
 
 // One whole number.
 fn whole(number: u32, first: u64) -> Carried
-    ensures { result ≡ carrying number 1 first 0 false plus_zero }
+    ensures { result ≡ carrying number 1 first 0 None }
 {
     Carried {
         number,
         wholes: 1,
         first,
         second: 0,
-        has_real: false,
-        real: 0.0,
+        real: None,
     }
 }
 
 // Two whole numbers.
 fn pair(number: u32, first: u64, second: u64) -> Carried
-    ensures { result ≡ carrying number 2 first second false plus_zero }
+    ensures { result ≡ carrying number 2 first second None }
 {
     Carried {
         number,
         wholes: 2,
         first,
         second,
-        has_real: false,
-        real: 0.0,
+        real: None,
     }
 }
 
 // A double.
 fn double(number: u32, real: f64) -> Carried
-    ensures { result ≡ carrying number 0 0 0 true real }
+    ensures { result ≡ carrying number 0 0 0 (Some real) }
 {
     Carried {
         number,
         wholes: 0,
         first: 0,
         second: 0,
-        has_real: true,
-        real,
+        real: Some(real),
     }
 }
 
 // A whole number and a double.
 fn whole_and_double(number: u32, first: u64, real: f64) -> Carried
-    ensures { result ≡ carrying number 1 first 0 true real }
+    ensures { result ≡ carrying number 1 first 0 (Some real) }
 {
     Carried {
         number,
         wholes: 1,
         first,
         second: 0,
-        has_real: true,
-        real,
+        real: Some(real),
     }
 }
 
 // A refusal's number and what it carries.
-pub fn numbers(e: Refusal) -> Carried
-    ensures { result ≡ carried_by (numbered e) }
-{
-    match e {
-        Refusal::TableSize(n) => whole(2, n as u64),
-        Refusal::MuNonFinite(i) => whole(3, i as u64),
-        Refusal::MuRange(i) => whole(4, i as u64),
-        Refusal::WeightRange(i) => whole(5, i as u64),
-        Refusal::LengthMismatch(n, m) => pair(6, n as u64, m as u64),
-        Refusal::NonFinite(i) => whole(7, i as u64),
-        Refusal::InvalidRadius(x) => double(8, x),
-        Refusal::BudgetRange(b) => whole(9, b),
-        Refusal::CandidateLength(n, m) => pair(10, n as u64, m as u64),
-        Refusal::CandidateDistance(x) => double(11, x),
-        Refusal::CandidateOutside(x) => double(12, x),
-        Refusal::WidenedRadius(x) => double(13, x),
-        Refusal::ListSize(n) => whole(14, n as u64),
-        Refusal::BudgetExhausted(m, x) => whole_and_double(15, m, x),
-        Refusal::OutsideRadius(x) => double(16, x),
-        Refusal::ListFull(k) => whole(18, k as u64),
-        Refusal::ReferenceIndex => nothing(19),
-        Refusal::ChangedRange(i) => whole(20, i as u64),
-        Refusal::SettingRange(i) => whole(21, i as u64),
-        Refusal::MatrixRange(i) => whole(22, i as u64),
-        Refusal::NotInverse => nothing(23),
-        Refusal::MappedRange(i) => whole(24, i as u64),
-        Refusal::NameRange => nothing(25),
-        Refusal::NameEmpty => nothing(26),
-        Refusal::SumRange(s) => whole(27, s),
-        Refusal::SliceRange => nothing(28),
-        Refusal::NoneHeld => nothing(29),
-        Refusal::EpochsSize => nothing(30),
+impl From<Refusal> for Carried {
+    ghost from_gives = { λ e carried. carried ≡ carried_by (numbered e) };
+
+    fn from(e: Refusal) -> Carried
+        ensures { result ≡ carried_by (numbered e) }
+    {
+        match e {
+            Refusal::TableSize(n) => whole(2, n as u64),
+            Refusal::MuNonFinite(i) => whole(3, i as u64),
+            Refusal::MuRange(i) => whole(4, i as u64),
+            Refusal::WeightRange(i) => whole(5, i as u64),
+            Refusal::LengthMismatch(n, m) => pair(6, n as u64, m as u64),
+            Refusal::NonFinite(i) => whole(7, i as u64),
+            Refusal::InvalidRadius(x) => double(8, x),
+            Refusal::BudgetRange(b) => whole(9, b),
+            Refusal::CandidateLength(n, m) => pair(10, n as u64, m as u64),
+            Refusal::CandidateDistance(x) => double(11, x),
+            Refusal::CandidateOutside(x) => double(12, x),
+            Refusal::WidenedRadius(x) => double(13, x),
+            Refusal::ListSize(n) => whole(14, n as u64),
+            Refusal::BudgetExhausted(m, x) => whole_and_double(15, m, x),
+            Refusal::OutsideRadius(x) => double(16, x),
+            Refusal::ListFull(k) => whole(18, k as u64),
+            Refusal::ReferenceIndex => nothing(19),
+            Refusal::ChangedRange(i) => whole(20, i as u64),
+            Refusal::SettingRange(i) => whole(21, i as u64),
+            Refusal::MatrixRange(i) => whole(22, i as u64),
+            Refusal::NotInverse => nothing(23),
+            Refusal::MappedRange(i) => whole(24, i as u64),
+            Refusal::NameRange => nothing(25),
+            Refusal::NameEmpty => nothing(26),
+            Refusal::SumRange(s) => whole(27, s),
+            Refusal::SliceRange => nothing(28),
+            Refusal::NoneHeld => nothing(29),
+            Refusal::EpochsSize => nothing(30),
+        }
     }
 }

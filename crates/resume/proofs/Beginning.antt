@@ -1,4 +1,7 @@
 -- The start of a walk is the machine's, and it is ready with any residuals. Assumes nothing.
+use Rattle.children.specs.declared.Children.{Children}
+use Rattle.children.specs.declared.Trial.{Trial}
+use Rattle.std.proofs.Common.{Option}
 use mathlib.Core.Path.{◌≡◌, refl, sym, ap, ◌∙◌, subst}
 use Prim.Native.Nat.{ℕ, suc, ◌+◌, ◌-◌, ◌≤◌}
 use native.Mathlib.Omega.{arith}
@@ -20,7 +23,6 @@ use Rattle.definitions.proofs.Leaves.{replaces_none}
 use Rattle.definitions.proofs.Machine.{descend_leaf, descend_level, begin_is}
 use Rattle.distance.specs.Residuals.{center_sum}
 use Rattle.distance.proofs.Centers.{residuals_nil, center_below}
-use Rattle.children.specs.declared.Child.{Child}
 use Rattle.resume.specs.declared.OpenLevel.{OpenLevel}
 use Rattle.resume.specs.declared.Walk.{Walk}
 use Rattle.resume.specs.View.{waiting_of, count_of, entered_of, stack_of, machine_of, with_best}
@@ -111,7 +113,7 @@ module _ {weights mu target : List Float} (shape : Shaped largest_dimension weig
     abbrev starts : Float → Float → Start
     starts v p = start v (sub binary64 radius p) (weight t l)
 
-    abbrev first : Child
+    abbrev first : Option (Trial × Children)
     first = entered_of (starts c plus_zero)
 
     abbrev walk : Walk
@@ -159,7 +161,7 @@ module _ {weights mu target : List Float} (shape : Shaped largest_dimension weig
     }
 
     -- as the code has it, with its first child x, its level and the number of open levels
-    pub begun_open : (x : Child) → x ≡ entered_of (starts c zero) → (f : OpenLevel) → f ≡ waiting_of l zero none x → (count : ℕ) → count ≡ count_of 0 x → Begun weights mu target radius (walk_with radius (set levels 0 f) count)
+    pub begun_open : (x : Option (Trial × Children)) → x ≡ entered_of (starts c zero) → (f : OpenLevel) → f ≡ waiting_of l zero none x → (count : ℕ) → count ≡ count_of 0 x → Begun weights mu target radius (walk_with radius (set levels 0 f) count)
     begun_open x e f g count h = subst (Begun weights mu target radius) (sym same) begun_walk
       where
         first_of : x ≡ first

@@ -1,4 +1,6 @@
 -- The turns as the code makes them, by what its calls say of their results. Assumes nothing.
+use Rattle.children.specs.declared.Trial.{Trial}
+use Rattle.std.proofs.Common.{Option}
 use mathlib.Core.Path.{◌≡◌, sym, ap, ◌∙◌, subst}
 use Prim.Native.Nat.{ℕ, suc, ◌+◌, ◌-◌, ◌<◌}
 use native.Mathlib.Omega.{arith}
@@ -15,7 +17,6 @@ use Rattle.definitions.proofs.Distances.{term_is}
 use Rattle.distance.specs.Residuals.{center_sum}
 use Rattle.children.specs.View.{zigzag, child_of}
 use Rattle.children.specs.declared.Children.{Children}
-use Rattle.children.specs.declared.Child.{Child}
 use Rattle.resume.specs.declared.OpenLevel.{OpenLevel}
 use Rattle.resume.specs.declared.Walk.{Walk}
 use Rattle.resume.specs.View.{generator_of, waiting_of, count_of, entered_of, considered_of}
@@ -32,7 +33,7 @@ pub record Given {weights mu target rest : List Float} {s : Walk} (u : Turn weig
   pub term_is : term ≡ mul binary64 (mul binary64 (weight (table weights mu) (lowest u).level) (sub binary64 (lowest u).center value)) (sub binary64 (lowest u).center value)
   pub generator : Children
   pub generator_is : generator ≡ generator_of (weight (table weights mu) (lowest u).level) (lowest u)
-  pub next : Child
+  pub next : Option (Trial × Children)
   pub next_is : next ≡ child_of (Z.next (zigzag generator))
   pub level : OpenLevel
   pub level_is : level ≡ waiting_of (lowest u).level (lowest u).partial (lowest u) next
@@ -49,7 +50,7 @@ module _ {weights mu target rest : List Float} {s : Walk} {u : Turn weights mu t
 
 -- What those have given that open the level below.
 pub record GivenBelow {weights mu target rest : List Float} {s : Walk} {u : Turn weights mu target rest s} (k : Given u) : Type 0 where
-  pub first : Child
+  pub first : Option (Trial × Children)
   pub first_is : first ≡ entered_of (start (center_sum (table weights mu) target (stored u (residual k)) ((lowest u).level - 1)) (sub binary64 s.radius (total k)) (weight (table weights mu) ((lowest u).level - 1)))
   pub level : OpenLevel
   pub level_is : level ≡ waiting_of ((lowest u).level - 1) (total k) (lowest u) first
@@ -132,7 +133,7 @@ module _ {weights mu target rest : List Float} {s : Walk} {u : Turn weights mu t
           c : Float
           c = center_sum (table weights mu) target (stored u (residual k)) l
 
-          first : Child
+          first : Option (Trial × Children)
           first = entered_of (starts u l c)
 
           first_of : o.first ≡ first

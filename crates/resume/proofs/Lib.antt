@@ -1,5 +1,4 @@
 -- Laws that the proofs of the functions, and callers, cite.
-pub mod Leaves
 pub mod Levels
 pub mod Residuals
 pub mod Storing

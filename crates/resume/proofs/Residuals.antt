@@ -26,6 +26,29 @@ module _ (n : ℕ) (target rest : List Float) (point : List ℤ) (rest_fits : n 
       places_none n rest rest_fits d h
       ∙ sym (ap (residuals target d) (places_none n point point_fits d h) ∙ residuals_nil target d)
 
+  -- a level's residual before those above it
+  beside_more : (d : ℕ) → d < n → get_or rest d nan ≡ sub binary64 (coordinate target d) (to_double (get_or point d (pos 0))) → Beside n target rest point (d + 1) → Beside n target rest point d
+  beside_more d h e b =
+      let r = sub binary64 (coordinate target d) (to_double (get_or point d (pos 0))) in
+      places_cons n rest rest_fits d nan h
+      ∙ ap (λ (x : Float). x ∷ places n (d + 1) rest) e
+      ∙ ap (λ (l : List Float). r ∷ l) (b ∙ ap (λ (k : ℕ). residuals target k (places n (d + 1) point)) (add-one d))
+      ∙ sym (ap (residuals target d) (places_cons n point point_fits d (pos 0) h) ∙ residuals_cons target d (get_or point d (pos 0)) (places n (d + 1) point))
+
+  -- if each is written, they are those beside the point from every level up
+  pub beside_written : ((k : ℕ) → k < n → get_or rest k nan ≡ sub binary64 (coordinate target k) (to_double (get_or point k (pos 0)))) → (d : ℕ) → d ≤ n → Beside n target rest point d
+  beside_written w d h = subst (Beside n target rest point) (same d h) (down (n - d) (omega arith))
+    where
+      same : (d : ℕ) → d ≤ n → n - (n - d) ≡ d
+      same d h = omega arith
+
+      higher : (k : ℕ) → suc k ≤ n → n - k ≡ n - suc k + 1
+      higher k h = omega arith
+
+      down : (k : ℕ) → k ≤ n → Beside n target rest point (n - k)
+      down zero h = beside_none (n - 0) (omega arith)
+      down (suc k) h = beside_more (n - suc k) (omega arith) (w (n - suc k) (omega arith)) (subst (Beside n target rest point) (higher k h) (down k (omega arith)))
+
   -- a coordinate and its residual set leave those above
   pub beside_kept : (d : ℕ) → d < n → (v : Float) (z : ℤ) → Beside n target rest point (d + 1) → Beside n target (set rest d v) (set point d z) (d + 1)
   beside_kept d h v z b =

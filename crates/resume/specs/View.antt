@@ -1,4 +1,6 @@
 -- What a kept walk stands for: a machine. Definitions only.
+use Rattle.children.specs.declared.Trial.{Trial}
+use Rattle.std.specs.Prelude.{Option, None, Some}
 use Rattle.std.specs.Prelude.{ℕ, zero, suc, ◌+◌, true, false, cond, List, [], ◌∷◌, length, take, get_or, ℤ, pos, Float}
 use Rattle.std.specs.Float.{nan}
 use Rattle.lists.specs.Places.{places}
@@ -7,8 +9,6 @@ use Rattle.definitions.specs.Nearest.{Best, best, no_best, replaces}
 use Rattle.definitions.specs.Machine.{Frame, Machine, machine}
 use Rattle.children.specs.View.{zigzag, child_of}
 use Rattle.children.specs.declared.Children.{Children}
-use Rattle.children.specs.declared.Child.{Child}
-use Rattle.children.specs.declared.Child.TheVariants.{At, End}
 use Rattle.resume.specs.declared.OpenLevel.{OpenLevel}
 use Rattle.resume.specs.declared.Walk.{Walk}
 
@@ -27,8 +27,8 @@ generator_of w f = record {
 }
 
 -- a level with what its zigzag gives; without a child, `other` stands in its place
-abbrev pub waiting_of : ℕ → Float → OpenLevel → Child → OpenLevel
-waiting_of level p other (At trial g) = record {
+abbrev pub waiting_of : ℕ → Float → OpenLevel → Option (Trial × Children) → OpenLevel
+waiting_of level p other (Some (trial, g)) = record {
   level = level;
   partial = p;
   center = g.center;
@@ -39,17 +39,17 @@ waiting_of level p other (At trial g) = record {
   positive_done = g.positive_done;
   negative_done = g.negative_done;
 }
-waiting_of level p other End = other
+waiting_of level p other None = other
 
 -- one open level more, if there is a child
-abbrev pub count_of : ℕ → Child → ℕ
-count_of k (At trial g) = k + 1
-count_of k End = k
+abbrev pub count_of : ℕ → Option (Trial × Children) → ℕ
+count_of k (Some (trial, g)) = k + 1
+count_of k None = k
 
 -- the first child of a level that is made
-abbrev pub entered_of : Start → Child
+abbrev pub entered_of : Start → Option (Trial × Children)
 entered_of (open_level g) = child_of (next g)
-entered_of no_children = End
+entered_of no_children = None
 
 -- ---- the open levels
 -- what stands past the end of an array of them

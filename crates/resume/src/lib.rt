@@ -12,11 +12,11 @@ ghost use Rattle.search.specs.View.{EnterReady};
 ghost use Rattle.resume.specs.View.{generator_of, waiting_of, count_of, entered_of, with_best, considered_of};
 ghost use Rattle.resume.specs.Ready.{RunReady, RanTo, Begun, ResidualsReady, ResidualsOf};
 
-use children::{Child, Children, Level, new_kept, next_kept};
+use children::{Children, Trial};
 use definitions::LARGEST_DIMENSION;
 use distance::{center, term};
 use rounding::to_double;
-use search::before;
+use search::replaces;
 
 // An open level: its number, the partial sum above it, its generator after the child that waits, and that child. Weight
 // and coordinates are not kept: they are the table's and the point's.
@@ -34,7 +34,8 @@ pub struct OpenLevel {
 }
 
 // A walk that is put down: the point under trial, the best so far, the open levels, of which there are `count`, the
-// highest first, the standing radius, the nodes and whether there is a best.
+// highest first, the standing radius, the nodes and whether there is a best. It is Copy, as each call takes and gives it, so
+// the open levels are an array with their number beside it, no `ArrayVec`, and the best an array with a flag.
 #[derive(Clone, Copy)]
 pub struct Walk {
     pub point: [i64; LARGEST_DIMENSION],
@@ -59,31 +60,27 @@ fn with_best(s: Walk, distance: f64) -> Walk
     }
 }
 
-// The leaf: the point under trial becomes the best if there is none, if it is nearer than the best, or as near and
-// lexicographically first.
+// The leaf: the point under trial becomes the best if it replaces that.
 fn consider(s: Walk, n: usize, distance: f64) -> Walk
     requires { n ≤ largest_dimension }
     ensures { result ≡ considered_of n s distance }
 {
-    if !s.found {
+    if replaces(&s.point, &s.best, n, s.found, distance, s.radius) {
         return with_best(s, distance);
-    }
-    if distance < s.radius {
-        return with_best(s, distance);
-    }
-    if distance == s.radius {
-        if before(&s.point, &s.best, n) {
-            return with_best(s, distance);
-        }
     }
     s
 }
 
 // An open level with the child that waits and the generator after it, or `other` where there is no child.
-fn waiting(level: usize, partial: f64, other: OpenLevel, following: Child) -> OpenLevel
+fn waiting(
+    level: usize,
+    partial: f64,
+    other: OpenLevel,
+    following: Option<(Trial, Children)>,
+) -> OpenLevel
     ensures { result ≡ waiting_of level partial other following }
 {
-    let Child::At(trial, g) = following else {
+    let Some((trial, g)) = following else {
         return other;
     };
     OpenLevel {
@@ -100,14 +97,11 @@ fn waiting(level: usize, partial: f64, other: OpenLevel, following: Child) -> Op
 }
 
 // One open level more, if there is a child.
-fn one_more(count: usize, following: Child) -> usize
+fn one_more(count: usize, following: Option<(Trial, Children)>) -> usize
     requires { count < largest_dimension }
     ensures { result ≡ count_of count following }
 {
-    let Child::At(_, _) = following else {
-        return count;
-    };
-    count + 1
+    count + usize::from(following.is_some())
 }
 
 // The generator of an open level, after the child that waits.
@@ -134,13 +128,13 @@ fn entered(
     rest: &[f64; LARGEST_DIMENSION],
     level: usize,
     remaining: f64,
-) -> Child
+) -> Option<(Trial, Children)>
     requires { EnterReady weights.now mu.now target.now rest.now level }
     ensures { result ≡ entered_of (Z.start (center_sum (table_at weights mu) (at_entry target) (at_entry rest) level) remaining (weight (table_at weights mu) level)) }
 {
     let value = center(mu, rest, weights.len(), level, target[level]);
-    let Level::Open(made) = new_kept(value, remaining, weights[level]) else {
-        return Child::End;
+    let Some(made) = Children::new(value, remaining, weights[level]) else {
+        return None;
     };
     made.first()
 }
@@ -192,11 +186,8 @@ pub fn residuals_of(
     requires { ResidualsReady target.now point.now rest.old }
     ensures { ResidualsOf (at_entry target) (at_entry point) rest.new }
 {
-    let mut depth = target.len();
-    while depth > 0 {
-        let level = depth - 1;
+    for level in 0..target.len() {
         rest[level] = target[level] - to_double(point[level]);
-        depth = level;
     }
 }
 
@@ -231,7 +222,7 @@ pub fn run_to(
         s.nodes += 1;
         s.point[level] = z;
         rest[level] = target[level] - value;
-        let following = next_kept(generator(f, weight));
+        let following = generator(f, weight).next();
         s.levels[top] = waiting(level, partial, f, following);
         s.count = one_more(top, following);
         if sum <= s.radius {

@@ -26,5 +26,6 @@ mod Comparison
 mod Zeros
 mod Constants
 mod Guess
+mod Total
 -- What other crates may use.
 pub mod Interface

@@ -1,7 +1,7 @@
 -- The logic's orderings as the code's. Definitions only.
 use Prim.Native.Nat.{Ordering as Order}
-use Rattle.rounding.specs.declared.Ordering.{Ordering}
-use Rattle.rounding.specs.declared.Ordering.TheVariants.{Less, Equal, Greater}
+use Rattle.std.specs.declared.cmp.Ordering.{Ordering}
+use Rattle.std.specs.declared.cmp.Ordering.TheVariants.{Less, Equal, Greater}
 
 abbrev pub ordering_of : Order → Ordering
 ordering_of Order.lt = Less

@@ -11,6 +11,8 @@ ghost use Rattle.rounding.specs.Doubles as D;
 ghost use Rattle.rounding.specs.Ordering.{ordering_of};
 ghost use Rattle.rounding.specs.Rounded.{InRange, Rounds, IntegerAndDouble};
 
+use std::cmp::Ordering;
+
 // The nearest integer to an x above 0 and below 2^63, a half upward. The sum x + x is exact, so the halves that it
 // counts are those of x.
 fn rounded(x: f64) -> u64
@@ -46,10 +48,8 @@ pub fn round_away(v: f64) -> i64
 pub fn to_double(n: i64) -> f64
     ensures { result ≡ to_double n }
 {
-    if n >= -9007199254740992 {
-        if n <= 9007199254740992 {
-            return n as f64;
-        }
+    if n >= -9007199254740992 && n <= 9007199254740992 {
+        return n as f64;
     }
     std::num::nearest_i64_to_f64(n)
 }
@@ -79,41 +79,18 @@ fn guessed(v: f64) -> i64
 
 // `round_away` of v, and `to_double` of that. A guess is taken that is nearer to v than a half; a half itself, and what
 // no guess meets, is worked out.
+#[inline(always)]
 pub fn rounded_away(v: f64) -> RoundedAway
     ensures { IntegerAndDouble v result }
 {
     let near = guessed(v);
     let double = to_double(near);
     let off = v - double;
-    if off < 0.5 {
-        if off > -0.5 {
-            return RoundedAway {
-                integer: near,
-                double,
-            };
-        }
-    }
-    let integer = round_away(v);
-    RoundedAway {
-        integer,
-        double: to_double(integer),
-    }
-}
-
-// The same once more, for the walk with running centres: of this size, a function is inlined where it has one caller only.
-pub fn rounded_away_large(v: f64) -> RoundedAway
-    ensures { IntegerAndDouble v result }
-{
-    let near = guessed(v);
-    let double = to_double(near);
-    let off = v - double;
-    if off < 0.5 {
-        if off > -0.5 {
-            return RoundedAway {
-                integer: near,
-                double,
-            };
-        }
+    if off < 0.5 && off > -0.5 {
+        return RoundedAway {
+            integer: near,
+            double,
+        };
     }
     let integer = round_away(v);
     RoundedAway {
@@ -126,37 +103,29 @@ pub fn rounded_away_large(v: f64) -> RoundedAway
 pub fn is_finite(x: f64) -> bool
     ensures { result ≡ finite x }
 {
-    x - x == 0.0
+    x.is_finite()
 }
 
 // x without its sign: minus zero gives plus zero, minus infinity plus infinity, and a NaN a NaN.
 pub fn magnitude(x: f64) -> f64
     ensures { result ≡ D.magnitude x }
 {
-    if x == 0.0 {
-        return 0.0;
-    }
-    if x < 0.0 {
-        return -x;
-    }
-    x
+    x.abs()
 }
 
 // The larger of x and y; x where they are equal, as plus and minus zero are. Where one of them is a NaN it gives the
-// other one, and so a NaN only of two.
+// other one, and so a NaN only of two. (`f64::max` gives either of two equal ones.)
 pub fn max(x: f64, y: f64) -> f64
     ensures { result ≡ D.larger x y }
 {
-    if x < y {
-        return y;
-    }
-    if x != x {
+    if x < y || x.is_nan() {
         return y;
     }
     x
 }
 
 // The double of a bit pattern, a NaN for each of a NaN's patterns: those that are, but for the sign, above infinity's.
+// (`f64::from_bits` asks that it is none of these, and `f64::to_bits` that x is no NaN.)
 pub fn from_bits(bits: u64) -> f64
     ensures { result ≡ from_bits binary64 bits }
 {
@@ -170,47 +139,10 @@ pub fn from_bits(bits: u64) -> f64
 pub fn to_bits(x: f64) -> u64
     ensures { result ≡ to_bits binary64 x }
 {
-    if x != x {
+    if x.is_nan() {
         return 9221120237041090560;
     }
     f64::to_bits(x)
-}
-
-// Whether the sign of x is minus, as minus zero's is; false of a NaN. A zero's sign shows in its reciprocal.
-fn negative(x: f64) -> bool
-    ensures { result ≡ D.negative x }
-{
-    if x == 0.0 {
-        return 1.0 / x < 0.0;
-    }
-    x < 0.0
-}
-
-// Whether x stands before y in `total_cmp`'s order: by value, minus zero before plus zero, and a NaN after every
-// number. No x stands before itself.
-pub fn precedes(x: f64, y: f64) -> bool
-    ensures { result ≡ D.precedes x y }
-{
-    if x < y {
-        return true;
-    }
-    if y != y {
-        return x == x;
-    }
-    if x == y {
-        if negative(x) {
-            return !negative(y);
-        }
-    }
-    false
-}
-
-// The answers of `total_cmp`.
-#[derive(Clone, Copy)]
-pub enum Ordering {
-    Less,
-    Equal,
-    Greater,
 }
 
 // How x stands to y: by value, minus zero below plus zero, and a NaN above every number and equal to a NaN. It is
@@ -218,11 +150,17 @@ pub enum Ordering {
 pub fn total_cmp(x: f64, y: f64) -> Ordering
     ensures { result ≡ ordering_of (D.total_cmp x y) }
 {
-    if precedes(x, y) {
-        return Ordering::Less;
+    let (first, second) = (x.is_nan(), y.is_nan());
+    if first || second {
+        return first.cmp(&second);
     }
-    if precedes(y, x) {
-        return Ordering::Greater;
-    }
-    Ordering::Equal
+    x.total_cmp(&y)
+}
+
+// Whether x stands before y in `total_cmp`'s order: by value, minus zero before plus zero, and a NaN after every
+// number. No x stands before itself.
+pub fn precedes(x: f64, y: f64) -> bool
+    ensures { result ≡ D.precedes x y }
+{
+    total_cmp(x, y).is_lt()
 }

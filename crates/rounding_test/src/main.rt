@@ -5,7 +5,7 @@
 
 use printing::values::*;
 use printing::{double, integer, newline, truth, word};
-use rounding::Ordering;
+use std::cmp::Ordering;
 
 fn round(v: f64) {
     integer(rounding::round_away(v));

@@ -6,7 +6,7 @@ ghost use Rattle.definitions.specs.Running.{add_row};
 ghost use Rattle.running.specs.Centers.{InitializeReady, start_centers, UpdateReady, Updated};
 
 use definitions::LARGEST_SEARCHED;
-use lists::copy_f64;
+use lists::copy;
 use rounding::to_double;
 
 // Adds a row's entries, times the factor, to the first centres.
@@ -14,10 +14,8 @@ fn add_row(row: &[f64], factor: f64, centers: &mut [f64])
     requires { length row.now ≤ length centers.old }
     ensures { centers.new ≡ add_row factor (at_entry row) centers.old }
 {
-    let mut i = 0;
-    while i < row.len() {
-        centers[i] = centers[i] + factor * row[i];
-        i += 1;
+    for i in 0..row.len() {
+        centers[i] += factor * row[i];
     }
 }
 
@@ -27,13 +25,11 @@ pub fn initialize_centers(mu: &[f64], target: &[f64], centers: &mut [f64])
     ensures { centers.new ≡ start_centers (at_entry mu) (at_entry target) }
 {
     let n = target.len();
-    copy_f64(target, centers);
-    let mut j = 0;
-    while j < n {
+    copy(target, centers);
+    for j in 0..n {
         let start = j * n;
         let end = start + j;
         add_row(&mu[start..end], target[j], centers);
-        j += 1;
     }
 }
 

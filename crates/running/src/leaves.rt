@@ -6,7 +6,7 @@ ghost use Rattle.running.specs.Call.{search_of, ConsiderReady, ConsideredBy};
 
 use crate::Standing;
 use definitions::LARGEST_SEARCHED;
-use search::before;
+use search::replaces;
 
 // The point under trial becomes the best, at that distance.
 fn taken(
@@ -25,8 +25,8 @@ fn taken(
     }
 }
 
-// As `search::consider`: the point under trial becomes the best if there is none, if it is nearer than the best, or as near
-// and lexicographically first. `found` is 0 as long as there is none, and 1 then.
+// As `search::consider`: the point under trial becomes the best if it replaces that. `found` is 0 as long as there is none,
+// and 1 then.
 pub fn consider(
     point: &[i64; LARGEST_SEARCHED],
     best: &mut [i64; LARGEST_SEARCHED],
@@ -38,17 +38,9 @@ pub fn consider(
     requires { ConsiderReady n point.now best.old }
     ensures { ConsideredBy n (at_entry point) best.old s distance found.old best.new result found.new }
 {
-    if *found == 0 {
-        *found = 1;
-        return taken(point, best, distance, s);
+    if !replaces(point, best, n, *found > 0, distance, s.radius) {
+        return s;
     }
-    if distance < s.radius {
-        return taken(point, best, distance, s);
-    }
-    if distance == s.radius {
-        if before(point, best, n) {
-            return taken(point, best, distance, s);
-        }
-    }
-    s
+    *found = 1;
+    taken(point, best, distance, s)
 }

@@ -10,7 +10,7 @@ mod centers;
 mod leaves;
 
 use centers::{initialize_centers, update_centers};
-use children::{Child, Level, new_large, next_large};
+use children::Children;
 use definitions::LARGEST_SEARCHED;
 use leaves::consider;
 use search::push;
@@ -51,10 +51,10 @@ fn run(
         return consider(point, best, weights.len(), partial, found, s);
     }
     let level = depth - 1;
-    let Level::Open(made) = new_large(centers[level], s.radius - partial, weights[level]) else {
+    let Some(made) = Children::new(centers[level], s.radius - partial, weights[level]) else {
         return s;
     };
-    let Child::At(mut child, mut zigzag) = made.first() else {
+    let Some((mut child, mut zigzag)) = made.first() else {
         return s;
     };
     loop {
@@ -65,9 +65,9 @@ fn run(
         s.nodes += 1;
         let sum = partial + child.term;
         update_centers(mu, weights, point, centers, level, child.z, child.value);
-        let following = next_large(zigzag);
+        let following = zigzag.next();
         if sum <= s.radius {
-            let Child::At(trial, after) = following else {
+            let Some((trial, after)) = following else {
                 return run(
                     mu, weights, point, best, centers, distances, points, found, exhausted,
                     listing, budget, level, sum, s,
@@ -84,7 +84,7 @@ fn run(
             zigzag = after;
             continue;
         }
-        let Child::At(trial, after) = following else {
+        let Some((trial, after)) = following else {
             return s;
         };
         child = trial;

@@ -1,5 +1,6 @@
 -- A level of the walk as the code goes through its children, for any leaf and any centres: the children that are left give what the whole level gives. So it is
 -- where the level opens, each turn keeps it, and each end follows from it. Assumes nothing.
+use Rattle.std.proofs.Common.{None, Some}
 use mathlib.Core.Path.{◌≡◌, ap, sym, ◌∙◌}
 use mathlib.Core.Bool.{Bool, true, false}
 use mathlib.Core.List.{List, ◌∷◌}
@@ -16,8 +17,6 @@ use Rattle.definitions.proofs.Turns.{children_none, children_exhausted}
 use Rattle.definitions.proofs.Zigzags.{Follows, start_at, start_opens, next_follows}
 use Rattle.children.specs.declared.Children.{Children}
 use Rattle.children.specs.declared.Trial.{Trial}
-use Rattle.children.specs.declared.Level.TheVariants.{Open, Closed}
-use Rattle.children.specs.declared.Child.TheVariants.{At, End}
 use Rattle.children.specs.View.{zigzag, level_of, child_of}
 use Rattle.children.proofs.Outcomes.{open_of, closed_of, at_of, end_of}
 use Rattle.search.proofs.Turns.{turn_exhausted, turn_pruned, turn_descends, walk_closed, walk_open}
@@ -67,10 +66,10 @@ module _ {K : Type 0} (v : Entered K) where
   start_of c = start c remaining (weight v.table v.level)
 
   module _ (c : Float) (is : c ≡ center_of) where
-    pub closes : Closed ≡ level_of (start_of c) → ended v.kept v.radius v.nodes ≡ whole
+    pub closes : None ≡ level_of (start_of c) → ended v.kept v.radius v.nodes ≡ whole
     closes e = sym (walk_closed v.leaf v.centers v.table v.budget v.level v.above v.partial v.kept v.radius v.nodes (ap start_of (sym is) ∙ closed_of _ e))
 
-    module _ (g : Children) (e : Open g ≡ level_of (start_of c)) where
+    module _ (g : Children) (e : Some g ≡ level_of (start_of c)) where
       start_is : start_of center_of ≡ open_level (zigzag g)
       start_is = ap start_of (sym is) ∙ open_of _ g e
 
@@ -96,13 +95,13 @@ module _ {K : Type 0} (v : Entered K) where
 -- ---- a turn
 module _ {K : Type 0} {v : Entered K} {g : Children} {k : K} {R : Float} {m : ℕ} (u : Going v g k R m) where
   -- there is no child left
-  pub children_end : End ≡ child_of (next (zigzag g)) → ended k R m ≡ whole v
+  pub children_end : None ≡ child_of (next (zigzag g)) → ended k R m ≡ whole v
   children_end e =
       sym (children_none v.leaf v.centers v.table v.budget (down v) v.level v.above v.partial (center_of v) u.fuel _ k R m)
       ∙ ap (λ (y : Next). left v u.fuel y (ended k R m)) (sym (end_of _ e))
       ∙ u.same
 
-  module _ {trial : Trial} {after : Children} (gives : At trial after ≡ child_of (next (zigzag g))) where
+  module _ {trial : Trial} {after : Children} (gives : Some (trial, after) ≡ child_of (next (zigzag g))) where
     abbrev z : ℤ
     z = trial.z
 

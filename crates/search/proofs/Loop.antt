@@ -1,4 +1,5 @@
 -- What the loop of `run` keeps: that of `Levels` for its call, and of the state it changes what `Preserved` says. Then its turns and its exits. Assumes nothing.
+use Rattle.std.proofs.Common.{None, Some}
 use mathlib.Core.Path.{◌≡◌, refl, ap, sym, ◌∙◌}
 use mathlib.Core.Bool.{Bool, true, false}
 use mathlib.Core.List.{List, ◌∷◌}
@@ -18,8 +19,6 @@ use Rattle.lists.proofs.Places.{places_set, places_kept, places_next}
 use Rattle.distance.proofs.Centers.{center_below, residuals_below}
 use Rattle.children.specs.declared.Children.{Children}
 use Rattle.children.specs.declared.Trial.{Trial}
-use Rattle.children.specs.declared.Level.TheVariants.{Open, Closed}
-use Rattle.children.specs.declared.Child.TheVariants.{At, End}
 use Rattle.children.specs.View.{zigzag, level_of, child_of}
 use Rattle.search.specs.Kept.{Kept, leaf}
 use Rattle.search.specs.View.{Search, seen}
@@ -55,7 +54,7 @@ pub record LoopReady (q : Call) (l : ℕ) (x : State) (g : Children) : Type 0 wh
 pub record ChildReady (q : Call) (l : ℕ) (x : State) (trial : Trial) (g : Children) : Type 0 where
   pub generator : Children
   pub loop : LoopReady q l x generator
-  pub gives : At trial g ≡ child_of (next (zigzag generator))
+  pub gives : Some (trial, g) ≡ child_of (next (zigzag generator))
 
 -- ---- a level
 pub record Level (q : Call) : Type 0 where
@@ -85,10 +84,10 @@ module _ {q : Call} (v : Level q) where
   abbrev pub start_of : Float → Start
   start_of = L.start_of entered
 
-  pub level_closed : Closed ≡ level_of (start_of center_sum_lem) → view (size q) q.from ≡ walk_of q
+  pub level_closed : None ≡ level_of (start_of center_sum_lem) → view (size q) q.from ≡ walk_of q
   level_closed e = view_ended (size q) q.from v.ready.not_exhausted ∙ L.closes entered center_sum_lem center_is e ∙ whole_is
 
-  module _ (g : Children) (e : Open g ≡ level_of (start_of center_sum_lem)) where
+  module _ (g : Children) (e : Some g ≡ level_of (start_of center_sum_lem)) where
     pub none_given : g.emitted_nearest ≡ false
     none_given = L.none_given entered center_sum_lem center_is g e
 
@@ -109,7 +108,7 @@ pub record Turn (q : Call) : Type 0 where
   pub loop : LoopReady q at.level now generator
 
 module _ {q : Call} (u : Turn q) where
-  pub children_end : End ≡ child_of (next (zigzag u.generator)) → view (size q) u.now ≡ walk_of q
+  pub children_end : None ≡ child_of (next (zigzag u.generator)) → view (size q) u.now ≡ walk_of q
   children_end e = view_ended (size q) u.now u.loop.not_exhausted ∙ L.children_end u.loop.going e ∙ whole_is u.at
 
   pub preserved_exhausted : Preserved q (state (without_budget u.now.search) u.now.rest u.now.distances u.now.points)
@@ -129,7 +128,7 @@ pub record Tried (q : Call) : Type 0 where
   pub turn : Turn q
   pub trial : Trial
   pub after : Children
-  pub gives : At trial after ≡ child_of (next (zigzag turn.generator))
+  pub gives : Some (trial, after) ≡ child_of (next (zigzag turn.generator))
 
 -- the sum with the child's term
 abbrev pub sum : {q : Call} → Tried q → Float
@@ -277,7 +276,7 @@ module _ {q : Call} (m : Below q) where
   }
 
   -- there is no child after it
-  pub last_child : End ≡ child_of (next (zigzag e.tried.after)) → view (size q) w ≡ walk_of q
+  pub last_child : None ≡ child_of (next (zigzag e.tried.after)) → view (size q) w ≡ walk_of q
   last_child f = by w.search.exhausted refl
     where
       by : (b : Bool) → w.search.exhausted ≡ b → view (size q) w ≡ walk_of q

@@ -1,15 +1,14 @@
 -- The leaf of `nearest`: when it replaces the best. Assumes nothing.
 use mathlib.Core.Path.{◌≡◌, refl, ap, sym, ◌∙◌}
-use mathlib.Core.Bool.{Bool, true, false, cond, ◌&&◌, ◌||◌}
+use mathlib.Core.Bool.{Bool, true, false, cond}
 use mathlib.Core.List.{List}
 use Prim.Native.Nat.{ℕ, ◌<◌}
-use native.Mathlib.Omega.{arith}
-use borrow.Author.Tests.{lt-ltb, le-ltb}
+use borrow.Author.Tests.{lt-ltb}
 use lib.IntN.{ℤ}
 use lib.ListN.{length, take}
-use lib.Ieee.{Float, lt, eq}
+use lib.Ieee.{Float}
 use Rattle.definitions.specs.Walk.{Walked, ended, exhausted}
-use Rattle.definitions.specs.Nearest.{Best, best, no_best, lexicographic, replaces}
+use Rattle.definitions.specs.Nearest.{best, no_best, replaces}
 use Rattle.search.specs.Kept.{Kept, leaf}
 use Rattle.search.specs.declared.RecursiveSearch.{RecursiveSearch}
 use Rattle.search.specs.View.{Search, carried, best_of, kept, seen, with_best, Considered}
@@ -36,19 +35,8 @@ pub considers_is : (room : ℕ) (zs : List ℤ) (d : Float) (k : Kept) (R : Floa
 unfolding leaf
 considers_is room zs d k R m = refl
 
-replaces_none : (zs : List ℤ) (d R : Float) → replaces zs d no_best R ≡ true
-unfolding replaces
-replaces_none zs d R = refl
-
-replaces_best : (zs bs : List ℤ) (d R : Float) → replaces zs d (best bs) R ≡ (lt d R || (eq d R && lexicographic zs bs))
-unfolding replaces
-replaces_best zs bs d R = refl
-
 -- ---- a leaf of the code
 module _ (n : ℕ) (s : RecursiveSearch) (d : Float) (found : ℕ) where
-  abbrev best_by : Bool → Best
-  best_by b = cond b (best (take n s.best)) no_best
-
   abbrev pub better : Bool
   better = replaces (take n s.point) d (best_of n (carried false s found false)) s.radius
 
@@ -73,26 +61,3 @@ module _ (n : ℕ) (s : RecursiveSearch) (d : Float) (found : ℕ) where
 
   pub stayed : better ≡ false → Considered n s d found s found
   stayed h = record { seen_as = λ distances points. sym (leaf_by false h distances points); point = refl; nodes = refl }
-
-  pub first : found ≡ 0 → better ≡ true
-  first e = ap (λ (b : Bool). replaces (take n s.point) d (best_by b) s.radius) (le-ltb 0 found (omega arith)) ∙ replaces_none (take n s.point) d s.radius
-
-  module _ (e : 0 < found) where
-    abbrev smaller : Bool
-    smaller = lexicographic (take n s.point) (take n s.best)
-
-    with_best_lem : better ≡ (lt d s.radius || (eq d s.radius && smaller))
-    with_best_lem = ap (λ (b : Bool). replaces (take n s.point) d (best_by b) s.radius) (lt-ltb 0 found e) ∙ replaces_best (take n s.point) (take n s.best) d s.radius
-
-    pub nearer : lt d s.radius ≡ true → better ≡ true
-    nearer h = with_best_lem ∙ ap (λ (b : Bool). b || (eq d s.radius && smaller)) h
-
-    module _ (h : lt d s.radius ≡ false) where
-      not_nearer : better ≡ (eq d s.radius && smaller)
-      not_nearer = with_best_lem ∙ ap (λ (b : Bool). b || (eq d s.radius && smaller)) h
-
-      pub tied : (b : Bool) → eq d s.radius ≡ true → smaller ≡ b → better ≡ b
-      tied b i j = not_nearer ∙ ap (λ (x : Bool). x && smaller) i ∙ j
-
-      pub farther : eq d s.radius ≡ false → better ≡ false
-      farther i = not_nearer ∙ ap (λ (x : Bool). x && smaller) i

@@ -40,8 +40,11 @@ abbrev pub with_best : RecursiveSearch → Float → RecursiveSearch
 with_best s d = record { point = s.point; best = s.point; radius = d; nodes = s.nodes }
 
 -- ---- what it keeps
+abbrev pub best_where : Bool → List ℤ → Best
+best_where found point = cond found (best point) no_best
+
 abbrev pub best_of : ℕ → Search → Best
-best_of n s = cond s.found (best (take n s.best)) no_best
+best_of n s = best_where s.found (take n s.best)
 
 abbrev pub kept : ℕ → Search → List Float → List ℤ → Kept
 kept n s distances points = record { best = best_of n s; count = s.listed; stored = rows n (min s.listed (length distances)) distances points }

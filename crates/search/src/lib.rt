@@ -4,17 +4,17 @@
 ghost use Rattle.std.specs.Prelude.{◌≡◌, ◌≤◌, ◌+◌, take};
 ghost use Rattle.definitions.specs.Table.{weight, largest_dimension};
 ghost use Rattle.definitions.specs.Lent.{at_entry, at_exit, table_at};
-ghost use Rattle.definitions.specs.Nearest.{lexicographic};
+ghost use Rattle.definitions.specs.Nearest.{lexicographic, replaces};
 ghost use Rattle.definitions.specs.Zigzag as Z;
 ghost use Rattle.children.specs.View.{level_of};
 ghost use Rattle.distance.specs.Residuals.{center_sum};
-ghost use Rattle.search.specs.View.{with_best, new_search, BeforeReady, Considered, PushReady, Pushed, EnterReady};
+ghost use Rattle.search.specs.View.{best_where, with_best, new_search, BeforeReady, Considered, PushReady, Pushed, EnterReady};
 ghost use Rattle.search.specs.Call.{call_of, call_at, exit_state, Ready, Returned};
 
-use children::{Child, Children, Level};
+use children::Children;
 use definitions::LARGEST_DIMENSION;
 use distance::center;
-use lists::copy_i64;
+use lists::copy;
 
 // The point under trial, the best so far, the standing radius and the number of nodes. Each call of the walk copies it, so
 // nothing more belongs in it.
@@ -45,19 +45,26 @@ pub fn before<'a>(point: &'a [i64], best: &'a [i64], n: usize) -> bool
     requires { BeforeReady n point.now best.now }
     ensures { result ≡ lexicographic (take n (at_entry point)) (take n (at_entry best)) }
 {
-    let mut i = 0;
-    while i < n {
-        let a = point[i];
-        let b = best[i];
-        if a < b {
-            return true;
-        }
-        if b < a {
-            return false;
-        }
-        i += 1;
+    point[..n] < best[..n]
+}
+
+// Whether a leaf replaces the best: there is none, or the leaf is nearer, or as near and lexicographically first.
+#[inline(always)]
+pub fn replaces<'a>(
+    point: &'a [i64],
+    best: &'a [i64],
+    n: usize,
+    found: bool,
+    distance: f64,
+    radius: f64,
+) -> bool
+    requires { BeforeReady n point.now best.now }
+    ensures { result ≡ replaces (take n (at_entry point)) distance (best_where found (take n (at_entry best))) radius }
+{
+    if !found || distance < radius {
+        return true;
     }
-    false
+    distance == radius && before(point, best, n)
 }
 
 // The search with the point under trial as its best, at that distance.
@@ -72,25 +79,17 @@ fn with_best(s: RecursiveSearch, distance: f64) -> RecursiveSearch
     }
 }
 
-// The leaf of nearest: the point under trial becomes the best if there is none, if it is nearer than the best, or as
-// near and lexicographically first. `found` is 0 as long as there is none, and 1 then.
+// The leaf of nearest: the point under trial becomes the best if it replaces that. `found` is 0 as long as there is none,
+// and 1 then.
 fn consider(s: RecursiveSearch, n: usize, distance: f64, found: &mut u64) -> RecursiveSearch
     requires { n ≤ largest_dimension }
     ensures { Considered n s distance found.old result found.new }
 {
-    if *found == 0 {
-        *found = 1;
-        return with_best(s, distance);
+    if !replaces(&s.point, &s.best, n, *found > 0, distance, s.radius) {
+        return s;
     }
-    if distance < s.radius {
-        return with_best(s, distance);
-    }
-    if distance == s.radius {
-        if before(&s.point, &s.best, n) {
-            return with_best(s, distance);
-        }
-    }
-    s
+    *found = 1;
+    with_best(s, distance)
 }
 
 // The leaf of list: a point is counted, and stored with its distance if there is a place left.
@@ -113,7 +112,7 @@ pub fn push(
     distances[at] = distance;
     let start = at * n;
     let end = start + n;
-    copy_i64(point, &mut points[start..end]);
+    copy(point, &mut points[start..end]);
 }
 
 // A level's generator: its centre comes from the residuals above it.
@@ -124,7 +123,7 @@ fn enter(
     rest: &[f64; LARGEST_DIMENSION],
     level: usize,
     remaining: f64,
-) -> Level
+) -> Option<Children>
     requires { EnterReady weights.now mu.now target.now rest.now level }
     ensures { result ≡ level_of (Z.start (center_sum (table_at weights mu) (at_entry target) (at_entry rest) level) remaining (weight (table_at weights mu) level)) }
 {
@@ -136,6 +135,9 @@ fn enter(
 // and `rest` the residuals beside the point under trial. The list goes into `distances` and `points`, n coordinates for
 // each distance, in the order of finding. `found` is the number of its points, or of nearest whether there is a best;
 // `exhausted` whether the budget ran out.
+//
+// Both are lent: the struct is the call's result, and what it holds is copied at each call. `listing` is a flag, as the
+// walk is proved once for both leaves, over what they keep together (specs/Kept.antt).
 //
 // A child is followed when the next one is known: the walk below the last child is the call's result, without a copy of
 // the struct on the way back.
@@ -165,10 +167,10 @@ pub fn run(
         return consider(s, weights.len(), partial, found);
     }
     let level = depth - 1;
-    let Level::Open(made) = enter(mu, weights, target, rest, level, s.radius - partial) else {
+    let Some(made) = enter(mu, weights, target, rest, level, s.radius - partial) else {
         return s;
     };
-    let Child::At(mut child, mut zigzag) = made.first() else {
+    let Some((mut child, mut zigzag)) = made.first() else {
         return s;
     };
     loop {
@@ -183,7 +185,7 @@ pub fn run(
         rest[level] = target[level] - child.value;
         let following = zigzag.next();
         if sum <= s.radius {
-            let Child::At(trial, after) = following else {
+            let Some((trial, after)) = following else {
                 return run(
                     mu, weights, target, rest, distances, points, found, exhausted, listing,
                     budget, level, sum, s,
@@ -200,7 +202,7 @@ pub fn run(
             zigzag = after;
             continue;
         }
-        let Child::At(trial, after) = following else {
+        let Some((trial, after)) = following else {
             return s;
         };
         child = trial;

@@ -13,9 +13,9 @@ use babai::plane_levels;
 use checks::{handed_on, ml_check, seeded_check, total_check, widened_radius};
 use definitions::LARGEST_DIMENSION;
 use distance::total;
-use enumerate::{NearestAnswer, nearest_within};
-use lists::copy_f64;
-use refusals::Verdict;
+use enumerate::{NearestPoint, nearest_within};
+use lists::copy;
+use refusals::Refusal;
 
 // The search of `nearest`, at the widened radius.
 fn widened_search(
@@ -25,7 +25,7 @@ fn widened_search(
     out: &mut [i64],
     radius: f64,
     budget: u64,
-) -> NearestAnswer
+) -> Result<NearestPoint, Refusal>
     requires { WalkShaped largest_dimension weights.now mu.now target.now out.old budget }
     ensures { NearestAnswered (C.widened_search (table_at weights mu) (at_entry target) radius budget) out.old result out.new }
 {
@@ -49,10 +49,10 @@ pub fn nearest_seeded(
     candidate: &[i64],
     radius: f64,
     budget: u64,
-) -> NearestAnswer
+) -> Result<NearestPoint, Refusal>
     ensures { NearestAnswered (C.nearest_seeded (table_at weights mu) (at_entry target) out.old (at_entry candidate) radius budget) out.old result out.new }
 {
-    let checked = seeded_check(
+    seeded_check(
         LARGEST_DIMENSION,
         weights,
         mu,
@@ -61,12 +61,8 @@ pub fn nearest_seeded(
         candidate,
         radius,
         budget,
-    );
-    if let Verdict::Refuse(e) = checked {
-        return NearestAnswer::Refused(e);
-    }
-    let start = handed_on(radius);
-    widened_search(weights, mu, target, out, start, budget)
+    )?;
+    widened_search(weights, mu, target, out, handed_on(radius), budget)
 }
 
 // The distance of the nearest-plane point, which is left in `point`.
@@ -80,7 +76,7 @@ fn plane_total(
     requires { CandidateShaped weights.now mu.now target.now coefficients.old point.old }
     ensures { result ≡ C.ml_radius (table_at weights mu) (at_entry target) }
 {
-    copy_f64(target, coefficients);
+    copy(target, coefficients);
     plane_levels(weights, mu, coefficients, point);
     total(mu, weights, target, point)
 }
@@ -103,15 +99,12 @@ pub fn ml_search(
     target: &[f64],
     out: &mut [i64],
     budget: u64,
-) -> NearestAnswer
+) -> Result<NearestPoint, Refusal>
     requires { WalkShaped largest_dimension weights.now mu.now target.now out.old budget }
     ensures { NearestAnswered (ml_search (table_at weights mu) (at_entry target) budget) out.old result out.new }
 {
     let radius = ml_radius(weights, mu, target);
-    let inside = total_check(weights.len(), radius);
-    if let Verdict::Refuse(e) = inside {
-        return NearestAnswer::Refused(e);
-    }
+    total_check(weights.len(), radius)?;
     widened_search(weights, mu, target, out, radius, budget)
 }
 
@@ -129,12 +122,9 @@ pub fn nearest_ml(
     target: &[f64],
     out: &mut [i64],
     budget: u64,
-) -> NearestAnswer
+) -> Result<NearestPoint, Refusal>
     ensures { NearestAnswered (C.nearest_ml (table_at weights mu) (at_entry target) out.old budget) out.old result out.new }
 {
-    let checked = ml_check(LARGEST_DIMENSION, weights, mu, target, out, budget);
-    if let Verdict::Refuse(e) = checked {
-        return NearestAnswer::Refused(e);
-    }
+    ml_check(LARGEST_DIMENSION, weights, mu, target, out, budget)?;
     ml_search(weights, mu, target, out, budget)
 }

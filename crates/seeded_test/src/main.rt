@@ -13,17 +13,17 @@
 // strictly below the radius is admitted, and at n = 0 the empty vector is found.
 #![tactic(auto)]
 
-use enumerate::NearestAnswer;
+use enumerate::NearestPoint;
 use printing::values::*;
-use refusals::Verdict;
+use refusals::Refusal;
 
 // The double below the largest.
 const SECOND_LARGEST: f64 = 1.7976931348623155e308;
 
-fn answer(a: NearestAnswer, out: &[i64]) {
+fn answer(a: Result<NearestPoint, Refusal>, out: &[i64]) {
     match a {
-        NearestAnswer::Found(point) => printing::found(point.nodes, point.distance),
-        NearestAnswer::Refused(e) => printing::verdict(Verdict::Refuse(e)),
+        Ok(point) => printing::found(point.nodes, point.distance),
+        Err(e) => printing::verdict(Err(e)),
     }
     printing::integers(out);
     printing::newline();

@@ -25,7 +25,7 @@ use Rattle.theorems.proofs.Booleans.{to_true}
 use Rattle.theorems.proofs.FirstRefusal.{none_passes}
 use Rattle.theorems.proofs.Accepted.{search_passes_at, distance_accepts}
 use Rattle.theorems.proofs.Promises.{distance_promises}
-use Rattle.distance.specs.declared.Distance.TheVariants.{Finite, Overflow}
+use Rattle.std.specs.Prelude.{Ok, Err}
 use Rattle.distance.specs.View.{distance_of}
 use Rattle.snowgimmer.specs.Told.{DistanceAgrees}
 use Rattle.snowgimmer.proofs.Distances.{distance_found}
@@ -35,8 +35,8 @@ same_checks : (t : Table) (target : List Float) (out out' : List ℤ) → length
 unfolding search_checks
 same_checks t target out out' e = ap (λ (k : ℕ). first_refusal (table_checks largest_dimension t ++ length_check (dimension t) (length target) ∷ length_check (dimension t) k ∷ target_check target ∷ [])) e
 
-finite_distance : (d x : Float) → T (finite d) → x ≡ d → distance_of d ≡ Finite x
-finite_distance d x f e = ap (λ (b : Bool). cond b (Finite d) (Overflow d)) (to_true (finite d) f) ∙ ap Finite (sym e)
+finite_distance : (d x : Float) → T (finite d) → x ≡ d → distance_of d ≡ Ok x
+finite_distance d x f e = ap (λ (b : Bool). cond b (Ok d) (Err (record { total = d }))) (to_true (finite d) f) ∙ ap Ok (sym e)
 
 -- a search whose checks begin with those of every search
 pub distance_agrees : (largest : ℕ) (rest : List Verdict) {k : ℕ} {t : Table} {target : List Float} {R : Float} {budget : ℕ} {out : List ℤ} {answer : Answer NearestPoint} {out' : List ℤ} →

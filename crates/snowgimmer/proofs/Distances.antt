@@ -2,8 +2,6 @@
 use mathlib.Core.Path.{◌≡◌, refl, ap, ◌∙◌}
 use mathlib.Core.Bool.{Bool, true, false, not, cond}
 use mathlib.Core.List.{List, [], ◌∷◌}
-use Prim.Native.Nat.{ℕ}
-use native.Mathlib.Omega.{arith}
 use lib.IntN.{ℤ}
 use lib.Ieee.{Float}
 use lib.Ieee.Scale.{finite}
@@ -14,7 +12,8 @@ use Rattle.definitions.specs.Checks.{Verdict, pass, refuse, first_refusal, refus
 use Rattle.definitions.specs.Calls.{found, refused, search_checks, distance_checks, point_distance}
 use Rattle.definitions.proofs.Verdicts.{or_else, first_append, first_alone}
 use Rattle.definitions.proofs.Answers.{after_pass, after_refuse}
-use Rattle.distance.specs.declared.Distance.TheVariants.{Finite, Overflow}
+use Rattle.std.specs.Prelude.{Result, Ok, Err}
+use Rattle.distance.specs.declared.Overflow.{Overflow}
 use Rattle.distance.specs.View.{distance_of}
 
 module _ (t : Table) (target : List Float) (point : List ℤ) where
@@ -37,22 +36,22 @@ module _ (t : Table) (target : List Float) (point : List ℤ) where
     last : distance_checks largest_dimension t target point ≡ candidate_distance_check d
     last = checks_are ∙ ap (λ (v : Verdict). or_else v (candidate_distance_check d)) passed
 
-    pub distance_found : (x : Float) → distance_of d ≡ Finite x → point_distance t target point ≡ found x
+    pub distance_found : (x : Float) → distance_of d ≡ Ok x → point_distance t target point ≡ found x
     unfolding point_distance
     distance_found x q = by (finite d) refl q
       where
-        by : (b : Bool) → finite d ≡ b → cond b (Finite d) (Overflow d) ≡ Finite x → point_distance t target point ≡ found x
+        by : (b : Bool) → finite d ≡ b → cond {A = Result Float Overflow} b (Ok d) (Err (record { total = d })) ≡ Ok x → point_distance t target point ≡ found x
         by true f e =
             let same : d ≡ x = cc in
             after_pass (distance_checks largest_dimension t target point) (found d) (last ∙ ap (λ (b : Bool). refuse_if (not b) (candidate_distance d)) f) ∙ ap found same
-        by false f e = let z : ◌≡◌ {A = ℕ} 0 1 = cc in absurd (omega (arith, z))
+        by false f e = cc
 
-    pub distance_overflowed : (x : Float) → distance_of d ≡ Overflow x → point_distance t target point ≡ refused (candidate_distance x)
+    pub distance_overflowed : (x : Overflow) → distance_of d ≡ Err x → point_distance t target point ≡ refused (candidate_distance x.total)
     unfolding point_distance
     distance_overflowed x q = by (finite d) refl q
       where
-        by : (b : Bool) → finite d ≡ b → cond b (Finite d) (Overflow d) ≡ Overflow x → point_distance t target point ≡ refused (candidate_distance x)
+        by : (b : Bool) → finite d ≡ b → cond {A = Result Float Overflow} b (Ok d) (Err (record { total = d })) ≡ Err x → point_distance t target point ≡ refused (candidate_distance x.total)
         by false f e =
-            let same : d ≡ x = cc in
-            after_refuse (distance_checks largest_dimension t target point) (found d) (candidate_distance x) (last ∙ ap (λ (b : Bool). refuse_if (not b) (candidate_distance d)) f ∙ ap (λ (y : Float). refuse (candidate_distance y)) same)
-        by true f e = let z : ◌≡◌ {A = ℕ} 0 1 = cc in absurd (omega (arith, z))
+            let same : d ≡ x.total = cc in
+            after_refuse (distance_checks largest_dimension t target point) (found d) (candidate_distance x.total) (last ∙ ap (λ (b : Bool). refuse_if (not b) (candidate_distance d)) f ∙ ap (λ (y : Float). refuse (candidate_distance y)) same)
+        by true f e = cc

@@ -3,7 +3,6 @@ use mathlib.Core.Path.{◌≡◌, refl, sym, ap, ◌∙◌}
 use mathlib.Core.Bool.{Bool, true, false}
 use mathlib.Core.List.{List, [], ◌∷◌, ◌++◌}
 use Prim.Native.Nat.{ℕ}
-use borrow.Author.Tests.{ne_eqb}
 use lib.Dec.{eqb}
 use Rattle.definitions.specs.Table.{plus_zero}
 use Rattle.definitions.specs.Checks.{Verdict, pass, not_finite, beyond_limit}
@@ -13,10 +12,6 @@ use Rattle.theorems.proofs.Entries.{entry_promises}
 use Rattle.snowgimmer.specs.declared.report.Report.{Report}
 use Rattle.snowgimmer.specs.Reports.{told, of_verdict}
 use Rattle.snowgimmer.specs.Entries.{entry_report, told_from, ToldOf}
-
--- a number that is no verdict of the check is told again
-pub other_number : (number at : ℕ) (e : Entry) → (number ≡ 0 → ⊥) → (number ≡ 4 → ⊥) → entry_report number at e ≡ told number at 0 plus_zero
-other_number number at e not_0 not_4 = simp (ne_eqb number 0 not_0, ne_eqb number 4 not_4)
 
 -- what is told of a verdict gives that verdict
 abbrev GivenAgain : Verdict → Type 0

@@ -2,6 +2,8 @@
 use mathlib.Core.Path.{◌≡◌, ap, ◌∙◌}
 use mathlib.Core.List.{List}
 use lib.ListN.{get_or}
+use Rattle.std.specs.Prelude.{unwrap_or}
+use Rattle.definitions.specs.Table.{plus_zero}
 use Rattle.definitions.specs.Refusals.{Refusal, Value}
 use Rattle.definitions.specs.Checks.{Verdict}
 use Rattle.definitions.specs.Calls.{Answer, found, refused}
@@ -20,7 +22,7 @@ refusal_told e {r} tells = record {
 }
   where
     carrying : List Value → Report
-    carrying vs = told e.number (get_or (wholes_of vs) 0 0) (get_or (wholes_of vs) 1 0) (real_of vs)
+    carrying vs = told e.number (get_or (wholes_of vs) 0 0) (get_or (wholes_of vs) 1 0) (unwrap_or (real_of vs) plus_zero)
 
     by : {vs : List Value} → e.values ≡ vs → r ≡ carrying vs
     by q = tells ∙ ap carrying q

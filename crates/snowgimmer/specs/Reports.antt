@@ -1,5 +1,5 @@
 -- What the C interface tells of an answer beside the lent slices: a number, two whole numbers and a double. Definitions only.
-use Rattle.std.specs.Prelude.{ℕ, Float}
+use Rattle.std.specs.Prelude.{ℕ, Float, unwrap_or}
 use Rattle.std.specs.Borrow.{MutBor}
 use denote.Triple.Both.{Both}
 use Rattle.definitions.specs.Table.{plus_zero}
@@ -23,7 +23,7 @@ told_at number a b x = told number (at_exit a) (at_exit b) (at_exit x)
 
 -- a refusal: its number and its values, 0 for what it does not carry
 abbrev pub of_refusal : Refusal → Report
-of_refusal e = let c = carried_by e in told c.number c.first c.second c.real
+of_refusal e = let c = carried_by e in told c.number c.first c.second (unwrap_or c.real plus_zero)
 
 -- nearest, nearest_seeded and nearest_ml: the nodes, and the distance of the point
 abbrev pub of_nearest : Answer C.NearestPoint → Report

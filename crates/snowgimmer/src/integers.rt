@@ -7,9 +7,7 @@ ghost use Rattle.definitions.specs.Lent.{at_entry};
 pub fn read_integers(values: &[i64])
     ensures { T (all_i64 (at_entry values)) }
 {
-    let mut i = 0;
-    while i < values.len() {
-        let value = values[i];
-        i += 1;
+    for &value in values {
+        let _ = value;
     }
 }

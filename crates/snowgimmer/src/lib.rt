@@ -198,8 +198,7 @@ pub fn snowgimmer_turn(
     let told = turn(reals, integers, counts, last, out, slice);
     *name = told.name;
     *n = told.n;
-    let answer = told.answer;
-    stored(nearest_report(answer), first, second, real)
+    stored(nearest_report(told.answer), first, second, real)
 }
 
 // Every integer vector that is admitted at the radius, in the order of `list`: first is the number of nodes, second

@@ -10,11 +10,11 @@ ghost use Rattle.definitions.specs.Calls.{point_distance};
 
 use checks::search_check;
 use definitions::LARGEST_DIMENSION;
-use distance::{Distance, triangular_distance};
-use enumerate::NearestAnswer;
-use listing::ListAnswer;
-use ratio::{Ratio, RatioAnswer};
-use refusals::{Refusal, Verdict, numbers};
+use distance::triangular_distance;
+use enumerate::NearestPoint;
+use listing::ListFound;
+use ratio::Ratio;
+use refusals::{Carried, Refusal};
 
 #[derive(Clone, Copy)]
 pub struct Report {
@@ -37,30 +37,34 @@ pub fn told(number: u32, first: u64, second: u64, real: f64) -> Report
 }
 
 // A refusal's number and values.
-fn refusal_report(e: Refusal) -> Report
-    ensures { result ≡ R.of_refusal (numbered e) }
-{
-    let n = numbers(e);
-    told(n.number, n.first, n.second, n.real)
+impl From<Refusal> for Report {
+    ghost from_gives = { λ e report. report ≡ R.of_refusal (numbered e) };
+
+    fn from(e: Refusal) -> Report
+        ensures { result ≡ R.of_refusal (numbered e) }
+    {
+        let n = Carried::from(e);
+        told(n.number, n.first, n.second, n.real.unwrap_or(0.0))
+    }
 }
 
 // The report of a nearest search: its nodes, and the distance of its point.
-pub fn nearest_report(answer: NearestAnswer) -> Report
+pub fn nearest_report(answer: Result<NearestPoint, Refusal>) -> Report
     ensures { (out : List ℤ) → result ≡ R.of_nearest (N.nearest_answer answer out) }
 {
     match answer {
-        NearestAnswer::Found(p) => return told(0, p.nodes, 0, p.distance),
-        NearestAnswer::Refused(e) => return refusal_report(e),
+        Ok(p) => told(0, p.nodes, 0, p.distance),
+        Err(e) => Report::from(e),
     }
 }
 
 // The report of a list: its nodes, and how many points.
-pub fn list_report(answer: ListAnswer) -> Report
+pub fn list_report(answer: Result<ListFound, Refusal>) -> Report
     ensures { result ≡ R.of_counts (L.list_answer answer) }
 {
     match answer {
-        ListAnswer::Found(f) => return told(0, f.nodes, f.points as u64, 0.0),
-        ListAnswer::Refused(e) => return refusal_report(e),
+        Ok(f) => told(0, f.nodes, f.points as u64, 0.0),
+        Err(e) => Report::from(e),
     }
 }
 
@@ -77,22 +81,22 @@ fn ratio_number(ratio: Ratio) -> u64
 }
 
 // The report of a verdict on a list: its number.
-pub fn ratio_report(answer: RatioAnswer) -> Report
+pub fn ratio_report(answer: Result<Ratio, Refusal>) -> Report
     ensures { result ≡ R.of_ratio (answer_of answer) }
 {
     match answer {
-        RatioAnswer::Found(ratio) => return told(0, ratio_number(ratio), 0, 0.0),
-        RatioAnswer::Refused(e) => return refusal_report(e),
+        Ok(ratio) => told(0, ratio_number(ratio), 0, 0.0),
+        Err(e) => Report::from(e),
     }
 }
 
 // The report of a call that either succeeds or refuses, and no more.
-pub fn verdict_report(v: Verdict) -> Report
+pub fn verdict_report(v: Result<(), Refusal>) -> Report
     ensures { result ≡ R.of_verdict (verdict v) }
 {
     match v {
-        Verdict::Pass => return told(0, 0, 0, 0.0),
-        Verdict::Refuse(e) => return refusal_report(e),
+        Ok(()) => told(0, 0, 0, 0.0),
+        Err(e) => Report::from(e),
     }
 }
 
@@ -100,13 +104,12 @@ pub fn verdict_report(v: Verdict) -> Report
 pub fn distance_report(weights: &[f64], mu: &[f64], target: &[f64], point: &[i64]) -> Report
     ensures { result ≡ R.of_distance (point_distance (table_at weights mu) (at_entry target) (at_entry point)) }
 {
-    let checked = search_check(LARGEST_DIMENSION, weights, mu, target, point);
-    if let Verdict::Refuse(e) = checked {
-        return refusal_report(e);
+    if let Err(e) = search_check(LARGEST_DIMENSION, weights, mu, target, point) {
+        return Report::from(e);
     }
     match triangular_distance(mu, weights, target, point) {
-        Distance::Finite(d) => return told(0, 0, 0, d),
-        Distance::Overflow(sum) => return refusal_report(Refusal::CandidateDistance(sum)),
+        Ok(d) => told(0, 0, 0, d),
+        Err(e) => Report::from(Refusal::CandidateDistance(e.total)),
     }
 }
 

@@ -8,12 +8,31 @@
 
 use printing::values::*;
 
-fn told(name: &[u8], number: u32, first: u64, second: u64, real: f64) {
-    printing::word(name);
-    printing::count(number as u64);
-    printing::count(first);
-    printing::count(second);
-    printing::double(real);
+// What a call writes through its last three pointers.
+#[derive(Clone, Copy)]
+struct Report {
+    first: u64,
+    second: u64,
+    real: f64,
+}
+
+impl Report {
+    fn before() -> Report {
+        Report {
+            first: 9,
+            second: 9,
+            real: 9.5,
+        }
+    }
+
+    // Writes a case's name, the call's result and the report.
+    fn told(&self, name: &[u8], number: u32) {
+        printing::word(name);
+        printing::count(number as u64);
+        printing::count(self.first);
+        printing::count(self.second);
+        printing::double(self.real);
+    }
 }
 
 fn with_integers(values: &[i64]) {
@@ -27,9 +46,7 @@ fn nearest(name: &[u8], radius: f64, budget: u64) {
     let mu = mu_of_two(0.5);
     let target = [0.25, 0.5];
     let mut out = [7, -8];
-    let mut first = 9;
-    let mut second = 9;
-    let mut real = 9.5;
+    let mut report = Report::before();
     let number = snowgimmer::snowgimmer_nearest(
         &weights,
         &mu,
@@ -37,11 +54,11 @@ fn nearest(name: &[u8], radius: f64, budget: u64) {
         &mut out,
         radius,
         budget,
-        &mut first,
-        &mut second,
-        &mut real,
+        &mut report.first,
+        &mut report.second,
+        &mut report.real,
     );
-    told(name, number, first, second, real);
+    report.told(name, number);
     with_integers(&out);
 }
 
@@ -51,9 +68,7 @@ fn seeded(name: &[u8], candidate: &[i64], radius: f64, budget: u64) {
     let mu = mu_of_two(0.5);
     let target = [0.25, 0.5];
     let mut out = [7, -8];
-    let mut first = 9;
-    let mut second = 9;
-    let mut real = 9.5;
+    let mut report = Report::before();
     let number = snowgimmer::snowgimmer_nearest_seeded(
         &weights,
         &mu,
@@ -62,11 +77,11 @@ fn seeded(name: &[u8], candidate: &[i64], radius: f64, budget: u64) {
         candidate,
         radius,
         budget,
-        &mut first,
-        &mut second,
-        &mut real,
+        &mut report.first,
+        &mut report.second,
+        &mut report.real,
     );
-    told(name, number, first, second, real);
+    report.told(name, number);
     with_integers(&out);
 }
 
@@ -75,20 +90,18 @@ fn ml(name: &[u8], budget: u64) {
     let mu = mu_of_two(0.5);
     let target = [0.25, 0.5];
     let mut out = [7, -8];
-    let mut first = 9;
-    let mut second = 9;
-    let mut real = 9.5;
+    let mut report = Report::before();
     let number = snowgimmer::snowgimmer_nearest_ml(
         &weights,
         &mu,
         &target,
         &mut out,
         budget,
-        &mut first,
-        &mut second,
-        &mut real,
+        &mut report.first,
+        &mut report.second,
+        &mut report.real,
     );
-    told(name, number, first, second, real);
+    report.told(name, number);
     with_integers(&out);
 }
 
@@ -98,9 +111,7 @@ fn prepared(name: &[u8], transform: &[i64], inverse: &[i64], budget: u64) {
     let mu = mu_of_two(0.5);
     let target = [1.25, 1.75];
     let mut out = [7, -8];
-    let mut first = 9;
-    let mut second = 9;
-    let mut real = 9.5;
+    let mut report = Report::before();
     let number = snowgimmer::snowgimmer_prepared_nearest_ml(
         &weights,
         &mu,
@@ -109,11 +120,11 @@ fn prepared(name: &[u8], transform: &[i64], inverse: &[i64], budget: u64) {
         &target,
         &mut out,
         budget,
-        &mut first,
-        &mut second,
-        &mut real,
+        &mut report.first,
+        &mut report.second,
+        &mut report.real,
     );
-    told(name, number, first, second, real);
+    report.told(name, number);
     with_integers(&out);
 }
 
@@ -121,9 +132,7 @@ fn list(name: &[u8], distances: &mut [f64], points: &mut [i64], radius: f64, bud
     let weights = [1.0, 1.0];
     let mu = mu_of_two(0.5);
     let target = [0.25, 0.5];
-    let mut first = 9;
-    let mut second = 9;
-    let mut real = 9.5;
+    let mut report = Report::before();
     let number = snowgimmer::snowgimmer_list(
         &weights,
         &mu,
@@ -132,11 +141,11 @@ fn list(name: &[u8], distances: &mut [f64], points: &mut [i64], radius: f64, bud
         points,
         radius,
         budget,
-        &mut first,
-        &mut second,
-        &mut real,
+        &mut report.first,
+        &mut report.second,
+        &mut report.real,
     );
-    told(name, number, first, second, real);
+    report.told(name, number);
     printing::doubles(distances);
     with_integers(points);
 }
@@ -145,105 +154,93 @@ fn plane(name: &[u8], coefficients: &mut [f64]) {
     let weights = [1.0, 4.0];
     let mu = mu_of_two(0.5);
     let mut out = [7, -8];
-    let mut first = 9;
-    let mut second = 9;
-    let mut real = 9.5;
+    let mut report = Report::before();
     let number = snowgimmer::snowgimmer_nearest_plane(
         &weights,
         &mu,
         coefficients,
         &mut out,
-        &mut first,
-        &mut second,
-        &mut real,
+        &mut report.first,
+        &mut report.second,
+        &mut report.real,
     );
-    told(name, number, first, second, real);
+    report.told(name, number);
     printing::doubles(coefficients);
     with_integers(&out);
 }
 
 fn round(name: &[u8], coefficients: &[f64]) {
     let mut out = [7, -8];
-    let mut first = 9;
-    let mut second = 9;
-    let mut real = 9.5;
+    let mut report = Report::before();
     let number = snowgimmer::snowgimmer_round(
         coefficients,
         &mut out,
-        &mut first,
-        &mut second,
-        &mut real,
+        &mut report.first,
+        &mut report.second,
+        &mut report.real,
     );
-    told(name, number, first, second, real);
+    report.told(name, number);
     with_integers(&out);
 }
 
 fn distance(name: &[u8], target: &[f64], point: &[i64]) {
     let weights = [1.0, 1.0];
     let mu = mu_of_two(0.5);
-    let mut first = 9;
-    let mut second = 9;
-    let mut real = 9.5;
+    let mut report = Report::before();
     let number = snowgimmer::snowgimmer_distance(
         &weights,
         &mu,
         target,
         point,
-        &mut first,
-        &mut second,
-        &mut real,
+        &mut report.first,
+        &mut report.second,
+        &mut report.real,
     );
-    told(name, number, first, second, real);
+    report.told(name, number);
     with_integers(point);
 }
 
 fn change(name: &[u8], r: usize) {
     let mut point = [7, -8];
-    let mut first = 9;
-    let mut second = 9;
-    let mut real = 9.5;
+    let mut report = Report::before();
     let number = snowgimmer::snowgimmer_change_reference(
         &mut point,
         r,
-        &mut first,
-        &mut second,
-        &mut real,
+        &mut report.first,
+        &mut report.second,
+        &mut report.real,
     );
-    told(name, number, first, second, real);
+    report.told(name, number);
     with_integers(&point);
 }
 
 fn entry(name: &[u8], number: u32, at: u64, index: usize, value: f64) {
-    let mut first = 9;
-    let mut second = 9;
-    let mut real = 9.5;
+    let mut report = Report::before();
     let verdict = snowgimmer::snowgimmer_check_entry(
         number,
         at,
         index,
         value,
-        &mut first,
-        &mut second,
-        &mut real,
+        &mut report.first,
+        &mut report.second,
+        &mut report.real,
     );
-    told(name, verdict, first, second, real);
+    report.told(name, verdict);
     printing::newline();
 }
 
 fn ratio(name: &[u8], distances: &[f64], radius: f64, p: u64, q: u64) {
-    let mut first = 9;
-    let mut second = 9;
-    let mut real = 9.5;
+    let mut report = Report::before();
     let number = snowgimmer::snowgimmer_ratio(
         distances,
         radius,
         p,
         q,
-        &mut first,
-        &mut second,
-        &mut real,
+        &mut report.first,
+        &mut report.second,
+        &mut report.real,
     );
-    told(name, number, first, second, real);
+    report.told(name, number);
     printing::newline();
 }
 

@@ -4,21 +4,11 @@ use mathlib.Core.Bool.{Bool, true, false, cond}
 use mathlib.Core.List.{List}
 use Prim.Native.Nat.{ℕ, suc, ◌+◌, ◌-◌, ◌*◌, ◌≤◌, ◌<◌}
 use native.Mathlib.Omega.{arith}
-use borrow.Author.Tests.{lt-ltb, le-ltb}
+use Rattle.std.specs.Prelude.{Some, None}
 use Rattle.definitions.specs.Block.{Block, counts_of_part, from, is_sound, part_of}
 use Rattle.definitions.specs.Turn.{next_name, held_after, served}
-use Rattle.definitions.proofs.Turn.{held_zero, held_suc, held_sound}
+use Rattle.definitions.proofs.Turn.{next_range, held_zero, held_suc, held_sound}
 use Rattle.turns.specs.Names.{ServedBy}
-
--- ---- the next name
-pub next_low : (name : ℕ) → name < 8 → name + 1 ≡ next_name name
-next_low name l = plus name ∙ sym (ap (λ (c : Bool). cond c (suc name) 1) (lt-ltb name 8 l))
-  where
-    plus : (name : ℕ) → name + 1 ≡ suc name
-    plus name = omega arith
-
-pub next_high : (name : ℕ) → 8 ≤ name → 1 ≡ next_name name
-next_high name l = sym (ap (λ (c : Bool). cond c (suc name) 1) (le-ltb name 8 l))
 
 -- ---- the loop: so many names were tried, none of them held, and name is the last of them
 pub record Looking (counts : List ℕ) (last name tried : ℕ) : Type 0 where
@@ -41,13 +31,13 @@ module _ {counts : List ℕ} {last name tried : ℕ} (i : Looking counts last na
         left : (tried : ℕ) → tried < 8 → 8 - tried ≡ suc (8 - (tried + 1))
         left tried l = omega arith
 
-    pub looking_found : is_sound (from ((next_name name - 1) * counts_of_part) counts_of_part counts) ≡ true → ServedBy counts last (next_name name)
-    looking_found e b c = sym (one_more true e b c)
+    pub looking_found : is_sound (from ((next_name name - 1) * counts_of_part) counts_of_part counts) ≡ true → ServedBy counts last (Some (next_name name))
+    looking_found e = ((next_range name).0, λ b c. sym (one_more true e b c))
 
     pub looking_on : is_sound (from ((next_name name - 1) * counts_of_part) counts_of_part counts) ≡ false → Looking counts last (next_name name) (tried + 1)
     looking_on e = record { most = omega (arith, l); same = λ b c. one_more false e b c }
 
-  pub looking_none : 8 ≤ tried → ServedBy counts last 0
+  pub looking_none : 8 ≤ tried → ServedBy counts last None
   looking_none l b c = sym (i.same b c ∙ ap (λ (k : ℕ). held_after k b name) (none tried l) ∙ held_zero b name)
     where
       none : (tried : ℕ) → 8 ≤ tried → 8 - tried ≡ 0

@@ -10,6 +10,7 @@ use lib.ListN.{length, get_or, take, drop, take-append-drop}
 use lib.Seq.{take-append_seam, length-take-le, get_or-take, get_or-drop}
 use lib.IntN.{ℤ}
 use lib.Ieee.{Float}
+use Rattle.std.specs.Prelude.{Result, Err}
 use Rattle.definitions.specs.Table.{largest_budget}
 use Rattle.definitions.specs.Refusals.{budget_exhausted}
 use Rattle.definitions.specs.Checks.{Verdict, first_refusal}
@@ -21,9 +22,9 @@ use Rattle.definitions.specs.Turn.{passes, slice_answer, slice_slot, slot_dimens
 use Rattle.definitions.proofs.Answers.{after_pass, output_found, output_refused}
 use Rattle.definitions.proofs.Block.{sound_counts}
 use Rattle.definitions.proofs.Turn.{turn_output_found, turn_output_refused}
+use Rattle.refusals.specs.declared.Refusal.{Refusal as CodeRefusal}
 use Rattle.refusals.specs.declared.Refusal.TheVariants.{BudgetExhausted}
-use Rattle.enumerate.specs.declared.NearestAnswer.{NearestAnswer}
-use Rattle.enumerate.specs.declared.NearestAnswer.TheVariants.{Refused}
+use Rattle.enumerate.specs.declared.NearestPoint.{NearestPoint as CodePoint}
 use Rattle.enumerate.specs.View.{nearest_answer}
 use Rattle.enumerate.proofs.Answers.{answered_refused, answered_as}
 use Rattle.parts.specs.Parts.{block, PartLengths, Holds, zeros}
@@ -47,7 +48,7 @@ module _ (p : Block) (out : List ℤ) (slice : ℕ) (ready : PartReady p out) wh
   slot_is : (c : Bool) → passes h slice ≡ c → slice_slot slice (part_slot p) ≡ cond c free (further_slot slice (holds h))
   slot_is c e = ap (slice_slot slice) held ∙ ap (λ (c : Bool). cond c free (further_slot slice (holds h))) e
 
-  pub served_past : largest_budget < part_nodes p.counts + slice → {reals : List Float} {integers : List ℤ} {counts : List ℕ} → Holds (zeros p) reals integers counts → PartServed p out slice (Refused (BudgetExhausted h.walk.nodes h.walk.standing)) out (block reals integers counts)
+  pub served_past : largest_budget < part_nodes p.counts + slice → {reals : List Float} {integers : List ℤ} {counts : List ℕ} → Holds (zeros p) reals integers counts → PartServed p out slice (Err (BudgetExhausted h.walk.nodes h.walk.standing)) out (block reals integers counts)
   served_past l x =
       let e = lt-ltb largest_budget (part_nodes p.counts + slice) l in
       record {
@@ -55,7 +56,7 @@ module _ (p : Block) (out : List ℤ) (slice : ℕ) (ready : PartReady p out) wh
         part_is = holds_block x ∙ zeros_are p ready.lengths ∙ sym (ap (rewritten p) (slot_is true e));
       }
 
-  pub served_within : part_nodes p.counts + slice ≤ largest_budget → {r : NearestAnswer} {out' : List ℤ} {p' : Block} → PartPickedUp p out slice r out' p' → PartServed p out slice r out' p'
+  pub served_within : part_nodes p.counts + slice ≤ largest_budget → {r : Result CodePoint CodeRefusal} {out' : List ℤ} {p' : Block} → PartPickedUp p out slice r out' p' → PartServed p out slice r out' p'
   served_within l d =
       let e = le-ltb largest_budget (part_nodes p.counts + slice) l in
       let v = part_passes out slice (part_slot p) h held (ready.output_length ∙ sym (dimension_is p ready.lengths out slice ready.sound)) l in
@@ -104,7 +105,7 @@ module _ (b : Block) (out : List ℤ) (name slice : ℕ) (ready : ServeReady b o
         ap (λ (k : ℕ). o' ++ drop k out) (sym l) ∙ ap (λ (zs : List ℤ). zs ++ drop (length zs) out) same ∙ sym (turn_output_found x out)
     left_in_out (refused r) o' l e = ap (λ (zs : List ℤ). zs ++ drop m out) (e ∙ output_refused r (take m out)) ∙ take-append-drop m out ∙ sym (turn_output_refused r out)
 
-    pub name_served : {r : NearestAnswer} {o' : List ℤ} (q p' b' : Block) → q ≡ p → b' ≡ with_part b name p' → length o' ≡ length (take m out) → PartServed q (take m out) slice r o' p' → NameServed b out name slice (record { name = name; n = m; answer = r }) (o' ++ drop m out) b'
+    pub name_served : {r : Result CodePoint CodeRefusal} {o' : List ℤ} (q p' b' : Block) → q ≡ p → b' ≡ with_part b name p' → length o' ≡ length (take m out) → PartServed q (take m out) slice r o' p' → NameServed b out name slice (record { name = name; n = m; answer = r }) (o' ++ drop m out) b'
     name_served {r} {o'} q p' b' e f l d =
         let s : PartServed p (take m out) slice r o' p' = subst (λ (x : Block). PartServed x (take m out) slice r o' p') e d in
         let k : length o' ≡ m = l ∙ lent_length in

@@ -1,18 +1,17 @@
 -- What a turn asks for on the part of one name, and what it tells and leaves; ' marks what is there at exit. Definitions only.
-use Rattle.std.specs.Prelude.{◌≡◌, true, List, ℕ, ◌≤◌, length, take, ℤ}
+use Rattle.std.specs.Prelude.{◌≡◌, Result, Err, true, List, ℕ, ◌≤◌, length, take, ℤ}
 use Rattle.definitions.specs.Table.{largest_dimension}
 use Rattle.definitions.specs.Block.{Block, part_dimension, is_sound, part_slot, rewritten, part_of, slot_in, with_part}
 use Rattle.definitions.specs.Turn as D
 use Rattle.refusals.specs.declared.Refusal.{Refusal}
 use Rattle.enumerate.specs.View.{nearest_answer, NearestAnswered}
-use Rattle.enumerate.specs.declared.NearestAnswer.{NearestAnswer}
-use Rattle.enumerate.specs.declared.NearestAnswer.TheVariants.{Refused}
+use Rattle.enumerate.specs.declared.NearestPoint.{NearestPoint}
 use Rattle.parts.specs.Parts.{PartLengths}
 use Rattle.turns.specs.declared.TurnAnswer.{TurnAnswer}
 
 -- what a check refuses
 abbrev pub refused_turn : Refusal → TurnAnswer
-refused_turn e = record { name = 0; n = 0; answer = Refused e }
+refused_turn e = record { name = 0; n = 0; answer = Err e }
 
 -- ---- `serve_part`
 pub record PartReady (p : Block) (out : List ℤ) : Type 0 where
@@ -20,7 +19,7 @@ pub record PartReady (p : Block) (out : List ℤ) : Type 0 where
   pub sound : is_sound p.counts ≡ true
   pub output_length : length out ≡ part_dimension p.counts
 
-pub record PartServed (p : Block) (out : List ℤ) (slice : ℕ) (r : NearestAnswer) (out' : List ℤ) (p' : Block) : Type 0 where
+pub record PartServed (p : Block) (out : List ℤ) (slice : ℕ) (r : Result NearestPoint Refusal) (out' : List ℤ) (p' : Block) : Type 0 where
   pub answered : NearestAnswered (D.slice_answer slice (part_slot p)) out r out'
   pub part_is : p' ≡ rewritten p (D.slice_slot slice (part_slot p))
 

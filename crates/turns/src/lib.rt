@@ -14,20 +14,23 @@ ghost use Rattle.turns.specs.Turns.{refused_turn, PartReady, PartServed, ServeRe
 mod names;
 
 use definitions::{LARGEST_BUDGET, LARGEST_DIMENSION};
-use enumerate::NearestAnswer;
-use kept::block_check;
+use enumerate::NearestPoint;
 use kept::part::pick_up_part;
+use kept::{COUNTS_OF_PART, INTEGERS_OF_PART, REALS_OF_PART, block_check};
 use names::next_held;
 use parts::clear;
-use refusals::{Refusal, Verdict};
+use refusals::Refusal;
+
+// 2^20.
+const LARGEST_SLICE: u64 = 1048576;
 
 // What a turn tells: the name that it served, the n of its search, and the answer. A turn that a check refuses serves no
-// name: 0 and 0.
+// name: 0 and 0, and no Option, since C is told these numbers and the definitions' `Turn` has them (`TurnAnswered`).
 #[derive(Clone, Copy)]
 pub struct TurnAnswer {
     pub name: u64,
     pub n: u64,
-    pub answer: NearestAnswer,
+    pub answer: Result<NearestPoint, Refusal>,
 }
 
 // A turn that a check refuses.
@@ -37,19 +40,16 @@ fn refused(e: Refusal) -> TurnAnswer
     TurnAnswer {
         name: 0,
         n: 0,
-        answer: NearestAnswer::Refused(e),
+        answer: Err(e),
     }
 }
 
 // 28, then 6 of the block's three slices.
-fn slice_check(reals: &[f64], integers: &[i64], counts: &[u64], slice: u64) -> Verdict
+fn slice_check(reals: &[f64], integers: &[i64], counts: &[u64], slice: u64) -> Result<(), Refusal>
     ensures { verdict result ≡ first_refusal (slice_check slice ∷ block_checks (block (at_entry reals) (at_entry integers) (at_entry counts))) }
 {
-    if slice < 1 {
-        return Verdict::Refuse(Refusal::SliceRange);
-    }
-    if slice > 1048576 {
-        return Verdict::Refuse(Refusal::SliceRange);
+    if slice < 1 || slice > LARGEST_SLICE {
+        return Err(Refusal::SliceRange);
     }
     block_check(reals, integers, counts, 1)
 }
@@ -62,7 +62,7 @@ fn serve_part(
     counts: &mut [u64],
     out: &mut [i64],
     slice: u64,
-) -> NearestAnswer
+) -> Result<NearestPoint, Refusal>
     requires { PartReady (block reals.old integers.old counts.old) out.old }
     ensures { PartServed (block reals.old integers.old counts.old) out.old slice result out.new (block reals.new integers.new counts.new) }
 {
@@ -70,7 +70,7 @@ fn serve_part(
     if slice > LARGEST_BUDGET - nodes {
         let standing = reals[576];
         clear(reals, integers, counts);
-        return NearestAnswer::Refused(Refusal::BudgetExhausted(nodes, standing));
+        return Err(Refusal::BudgetExhausted(nodes, standing));
     }
     pick_up_part(reals, integers, counts, out, slice)
 }
@@ -88,17 +88,14 @@ fn serve(
     ensures { NameServed (block reals.old integers.old counts.old) out.old name slice result out.new (block reals.new integers.new counts.new) }
 {
     let at = (name - 1) as usize;
-    let r = at * 646;
-    let r_end = r + 646;
-    let i = at * 92;
-    let i_end = i + 92;
-    let c = at * 96;
-    let c_end = c + 96;
+    let r = at * REALS_OF_PART;
+    let i = at * INTEGERS_OF_PART;
+    let c = at * COUNTS_OF_PART;
     let n = counts[c] as usize;
     let answer = serve_part(
-        &mut reals[r..r_end],
-        &mut integers[i..i_end],
-        &mut counts[c..c_end],
+        &mut reals[r..r + REALS_OF_PART],
+        &mut integers[i..i + INTEGERS_OF_PART],
+        &mut counts[c..c + COUNTS_OF_PART],
         &mut out[..n],
         slice,
     );
@@ -125,14 +122,12 @@ pub fn turn(
 ) -> TurnAnswer
     ensures { TurnAnswered (block reals.old integers.old counts.old) last.old out.old slice result out.new (block reals.new integers.new counts.new) last.new }
 {
-    let checked = slice_check(reals, integers, counts, slice);
-    if let Verdict::Refuse(e) = checked {
+    if let Err(e) = slice_check(reals, integers, counts, slice) {
         return refused(e);
     }
-    let name = next_held(counts, *last);
-    if name == 0 {
+    let Some(name) = next_held(counts, *last) else {
         return refused(Refusal::NoneHeld);
-    }
+    };
     if out.len() != LARGEST_DIMENSION {
         return refused(Refusal::LengthMismatch(LARGEST_DIMENSION, out.len()));
     }

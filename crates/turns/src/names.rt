@@ -5,6 +5,7 @@ ghost use Rattle.definitions.specs.Turn.{next_name};
 ghost use Rattle.definitions.specs.Lent.{at_entry};
 ghost use Rattle.turns.specs.Names.{HeldReady, ServedBy};
 
+use kept::COUNTS_OF_PART;
 use parts::is_sound;
 
 // The name after a name: 1 after 8, and after a number that is no name.
@@ -22,24 +23,21 @@ fn is_held(counts: &[u64], name: u64) -> bool
     requires { HeldReady counts.now name }
     ensures { result ≡ is_sound (from ((name - 1) * counts_of_part) counts_of_part (at_entry counts)) }
 {
-    let c = (name - 1) as usize * 96;
-    let c_end = c + 96;
-    is_sound(&counts[c..c_end])
+    let c = (name - 1) as usize * COUNTS_OF_PART;
+    is_sound(&counts[c..c + COUNTS_OF_PART])
 }
 
-// The next held name after the one last served, or 0 if none is held.
-pub fn next_held(counts: &[u64], last: u64) -> u64
+// The next held name after the one last served, if one is held.
+pub fn next_held(counts: &[u64], last: u64) -> Option<u64>
     requires { length counts.now ≡ 768 }
     ensures { ServedBy (at_entry counts) last result }
 {
     let mut name = last;
-    let mut tried: u64 = 0;
-    while tried < 8 {
+    for _ in 0..8u64 {
         name = next_name(name);
         if is_held(counts, name) {
-            return name;
+            return Some(name);
         }
-        tried += 1;
     }
-    0
+    None
 }

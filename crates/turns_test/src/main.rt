@@ -5,10 +5,10 @@
 // that.
 #![tactic(auto)]
 
-use enumerate::NearestAnswer;
+use enumerate::NearestPoint;
 use kept::{nearest_named, pick_up};
 use printing::values::*;
-use refusals::{Refusal, Verdict};
+use refusals::Refusal;
 use turns::TurnAnswer;
 
 // The largest slice.
@@ -24,10 +24,9 @@ const EVERY: u64 = 18446744073709551615;
 fn told(t: TurnAnswer, last: u64, out: &[i64]) {
     printing::count(t.name);
     printing::count(t.n);
-    let answer = t.answer;
-    match answer {
-        NearestAnswer::Found(point) => printing::found(point.nodes, point.distance),
-        NearestAnswer::Refused(e) => printing::verdict(Verdict::Refuse(e)),
+    match t.answer {
+        Ok(point) => printing::found(point.nodes, point.distance),
+        Err(e) => printing::verdict(Err(e)),
     }
     printing::word(b", last");
     printing::count(last);
@@ -70,17 +69,15 @@ fn four_turns(
     last: &mut u64,
     slice: u64,
 ) {
-    turn(case, reals, integers, counts, last, slice);
-    turn(case, reals, integers, counts, last, slice);
-    turn(case, reals, integers, counts, last, slice);
-    turn(case, reals, integers, counts, last, slice);
+    for _ in 0..4 {
+        turn(case, reals, integers, counts, last, slice);
+    }
 }
 
 // What a named call or a pickup answers is shown by `kept_test`; here 15 alone is meant.
-fn kept_so(a: NearestAnswer) {
-    match a {
-        NearestAnswer::Found(_) => printing::word(b"found\n"),
-        NearestAnswer::Refused(_) => return,
+fn kept_so(a: Result<NearestPoint, Refusal>) {
+    if a.is_ok() {
+        printing::word(b"found\n");
     }
 }
 
@@ -143,17 +140,11 @@ fn of_23(reals: &mut [f64], integers: &mut [i64], counts: &mut [u64], name: u64)
     ));
 }
 
-fn four_names(reals: &mut [f64], integers: &mut [i64], counts: &mut [u64], names: [u64; 4]) {
-    g(reals, integers, counts, names[0]);
-    g(reals, integers, counts, names[1]);
-    g(reals, integers, counts, names[2]);
-    g(reals, integers, counts, names[3]);
-}
-
 // G under every name.
 fn all_names(reals: &mut [f64], integers: &mut [i64], counts: &mut [u64]) {
-    four_names(reals, integers, counts, [1, 2, 3, 4]);
-    four_names(reals, integers, counts, [5, 6, 7, 8]);
+    for name in 1..=8 {
+        g(reals, integers, counts, name);
+    }
 }
 
 // ---- what a block holds
@@ -170,22 +161,16 @@ fn dimension(e: Refusal) {
 fn held(reals: &mut [f64], integers: &mut [i64], counts: &mut [u64], name: u64) {
     let mut out = [7; 24];
     match pick_up(reals, integers, counts, name, &mut out, 0) {
-        NearestAnswer::Found(_) => printing::word(b" found"),
-        NearestAnswer::Refused(e) => dimension(e),
+        Ok(_) => printing::word(b" found"),
+        Err(e) => dimension(e),
     }
-}
-
-fn four_held(reals: &mut [f64], integers: &mut [i64], counts: &mut [u64], names: [u64; 4]) {
-    held(reals, integers, counts, names[0]);
-    held(reals, integers, counts, names[1]);
-    held(reals, integers, counts, names[2]);
-    held(reals, integers, counts, names[3]);
 }
 
 fn names(case: &[u8], reals: &mut [f64], integers: &mut [i64], counts: &mut [u64]) {
     printing::word(case);
-    four_held(reals, integers, counts, [1, 2, 3, 4]);
-    four_held(reals, integers, counts, [5, 6, 7, 8]);
+    for name in 1..=8 {
+        held(reals, integers, counts, name);
+    }
     printing::newline();
 }
 

@@ -37,10 +37,5 @@ more_digits (suc m) rest h =
     ap (λ (b : Bool). decimal_before (suc m) b (suc m) rest) (le-ltb (suc m) 10 h)
     ∙ any_steps m (suc m / 10) (ltb (suc m / 10) 10) (suc m / 10) (digit (suc m % 10) ∷ rest) refl (omega arith) (omega arith)
 
--- more than one digit takes more than one place
-pub room : (start n : ℕ) → n < 10 ^ (start + 1) → 10 ≤ n → 1 ≤ start
-room zero n h k = omega arith
-room (suc start) n h k = omega arith
-
 pub fewer : (start n : ℕ) → n < 10 ^ (start + 1) → n / 10 < 10 ^ start
 fewer start n h = let p = pow-add 10 start 1 in omega arith

@@ -1,37 +1,15 @@
 -- The text of a signed number from that of its magnitude. Assumes nothing.
-use Rattle.std.proofs.Common.{◌≡◌, ℕ, zero, suc, ◌+◌, false, ◌∷◌, ℤ, pos, negsuc, ◌+ℤ◌, ◌-ℤ◌, nat_abs, sym, refl, ap, ◌∙◌, true≢false, add-one, w64, SFits, to_z, of_z}
-use lib.Dec.{leb-zero}
-use lib.IntN.{suc_ℤ, +ℤ_idl, +ℤ_one}
-use lib.Signed.{le_z}
-use mir.ValLaws.{to_z-of_z}
-use Rattle.definitions.specs.JobText.{decimal, signed_decimal}
+use Rattle.std.proofs.Common.{◌≡◌, true, false, ◌++◌, ℤ, pos, negsuc, unsigned_abs, refl, true≢false, arith}
+use borrow.Author.Tests.{ltb-true}
+use lib.Signed.{lt_z}
+use Rattle.definitions.specs.JobText.{text, decimal, signed_decimal}
 
-pub not_negative : (n : ℕ) → decimal n ≡ signed_decimal (pos n)
+pub not_negative : (z : ℤ) → lt_z z (pos 0) ≡ false → decimal (unsigned_abs z) ≡ signed_decimal z
 unfolding signed_decimal
-not_negative n = refl
+not_negative (pos n) h = refl
+not_negative (negsuc n) h = absurd (true≢false h)
 
--- an i64 that was stored and read
-abbrev pub back : ℤ → ℤ
-back z = to_z w64 (of_z w64 z)
-
-minus_suc : (a : ℕ) → pos 0 -ℤ suc_ℤ (negsuc a) ≡ pos a
-minus_suc zero = refl
-minus_suc (suc a) = +ℤ_idl (pos (suc a))
-
--- the magnitude of a negative number is one more than that of the number above it
-magnitude : (z : ℤ) → le_z (pos 0) z ≡ false → 45 ∷ decimal (nat_abs (pos 0 -ℤ (z +ℤ pos 1)) + 1) ≡ signed_decimal z
-unfolding signed_decimal
-magnitude (pos a) t = absurd (true≢false (sym (leb-zero a) ∙ t))
-magnitude (negsuc a) t = ap (λ (y : ℤ). 45 ∷ decimal (nat_abs y + 1)) (ap (λ (y : ℤ). pos 0 -ℤ y) (+ℤ_one (negsuc a)) ∙ minus_suc a) ∙ ap (λ (k : ℕ). 45 ∷ decimal k) (add-one a)
-
--- the steps by which the code turns a negative number lose nothing
-negated_is : (z : ℤ) → SFits w64 z → SFits w64 (back z +ℤ pos 1) → SFits w64 (pos 0 -ℤ back (back z +ℤ pos 1)) → back (pos 0 -ℤ back (back z +ℤ pos 1)) ≡ pos 0 -ℤ (z +ℤ pos 1)
-negated_is z f g h =
-    to_z-of_z w64 (pos 0 -ℤ back (back z +ℤ pos 1)) h
-    ∙ ap (λ (y : ℤ). pos 0 -ℤ y) (to_z-of_z w64 (back z +ℤ pos 1) g)
-    ∙ ap (λ (y : ℤ). pos 0 -ℤ (y +ℤ pos 1)) (to_z-of_z w64 z f)
-
-pub negative : (z : ℤ) → SFits w64 z → SFits w64 (back z +ℤ pos 1) → SFits w64 (pos 0 -ℤ back (back z +ℤ pos 1)) → le_z (pos 0) (back z) ≡ false → 45 ∷ decimal (nat_abs (back (pos 0 -ℤ back (back z +ℤ pos 1))) + 1) ≡ signed_decimal z
-negative z f g h t =
-    ap (λ (y : ℤ). 45 ∷ decimal (nat_abs y + 1)) (negated_is z f g h)
-    ∙ magnitude z (ap (le_z (pos 0)) (sym (to_z-of_z w64 z f)) ∙ t)
+pub negative : (z : ℤ) → lt_z z (pos 0) ≡ true → text "-" ++ decimal (unsigned_abs z) ≡ signed_decimal z
+unfolding signed_decimal text
+negative (pos n) h = let below = ltb-true n 0 h in absurd (omega arith)
+negative (negsuc n) h = refl

@@ -29,16 +29,6 @@ mod children {
         pub negative_done: bool,
     }
 
-    pub enum Level {
-        Open(Children),
-        Closed,
-    }
-
-    pub enum Child {
-        At(Trial, Children),
-        End,
-    }
-
     impl Children {
         fn after(center: f64, remaining: f64, weight: f64, taken: usize, zigzag: &Zigzag) -> Self {
             let (step, positive_done, negative_done) = zigzag.state();
@@ -46,23 +36,19 @@ mod children {
             Self { center, remaining, weight, taken, step, positive_done, negative_done }
         }
 
-        pub fn new(center: f64, remaining: f64, weight: f64) -> Level {
-            match Zigzag::new(center, remaining, weight) {
-                Some(zigzag) => Level::Open(Self::after(center, remaining, weight, 0, &zigzag)),
-                None => Level::Closed,
-            }
+        pub fn new(center: f64, remaining: f64, weight: f64) -> Option<Self> {
+            let zigzag = Zigzag::new(center, remaining, weight)?;
+            Some(Self::after(center, remaining, weight, 0, &zigzag))
         }
 
-        pub fn next(self) -> Child {
+        pub fn next(self) -> Option<(Trial, Self)> {
             let Self { center, remaining, weight, taken, .. } = self;
             let mut zigzag = Zigzag::new(center, remaining, weight).unwrap();
-            let Some(z) = zigzag.nth(taken) else {
-                return Child::End;
-            };
+            let z = zigzag.nth(taken)?;
             let value = z as f64;
             let d = center - value;
             let trial = Trial { z, value, term: weight * d * d };
-            Child::At(trial, Self::after(center, remaining, weight, taken + 1, &zigzag))
+            Some((trial, Self::after(center, remaining, weight, taken + 1, &zigzag)))
         }
     }
 }

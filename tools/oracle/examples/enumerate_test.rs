@@ -10,9 +10,10 @@ use common::{printing, refusals};
 
 mod enumerate {
     use super::common;
+    use super::refusals::Refusal;
     use oracle::enumerate::EnumerationScratch;
 
-    pub use common::{NearestAnswer, NearestPoint};
+    pub use common::NearestPoint;
 
     pub fn nearest(
         weights: &[f64],
@@ -21,14 +22,13 @@ mod enumerate {
         out: &mut [i64],
         radius: f64,
         budget: u64,
-    ) -> NearestAnswer {
-        let answer = common::answer(oracle::LARGEST_SEARCHED, weights, mu, budget, None, |table, budget| {
+    ) -> Result<NearestPoint, Refusal> {
+        common::answer(oracle::LARGEST_SEARCHED, weights, mu, budget, None, |table, budget| {
             let scratch = &mut EnumerationScratch::new();
             let nodes = table.nearest(target, out, radius, budget, scratch).map_err(common::refusal)?;
             let distance = oracle::nearest_distance(table, target, out, radius, budget).unwrap();
             Ok(NearestPoint { nodes, distance })
-        });
-        answer.into()
+        })
     }
 }
 

@@ -9,7 +9,7 @@ mod common;
 use common::{printing, refusals};
 
 mod enumerate {
-    pub use super::common::{NearestAnswer, NearestPoint};
+    pub use super::common::NearestPoint;
 }
 
 #[path = "common/kept.rs"]

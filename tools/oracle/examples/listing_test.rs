@@ -22,11 +22,6 @@ mod listing {
         pub points: usize,
     }
 
-    pub enum ListAnswer {
-        Found(ListFound),
-        Refused(Refusal),
-    }
-
     pub fn list(
         weights: &[f64],
         mu: &[f64],
@@ -35,23 +30,20 @@ mod listing {
         points: &mut [i64],
         radius: f64,
         budget: u64,
-    ) -> ListAnswer {
+    ) -> Result<ListFound, Refusal> {
         let (n, places) = (weights.len(), distances.len());
         let size = (places > 4096 || points.len() != n * places).then_some(Refusal::ListSize(places));
-        let answer = common::answer(oracle::LARGEST_SEARCHED, weights, mu, budget, size, |table, budget| {
+        let (found, nodes) = common::answer(oracle::LARGEST_SEARCHED, weights, mu, budget, size, |table, budget| {
             oracle::list(table, target, radius, budget).map_err(common::refusal)
-        });
-        match answer {
-            Err(refusal) => ListAnswer::Refused(refusal),
-            Ok((found, _)) if found.len() > places => ListAnswer::Refused(Refusal::ListFull(found.len())),
-            Ok((found, nodes)) => {
-                for (place, (distance, point)) in found.iter().enumerate() {
-                    distances[place] = *distance;
-                    points[place * n..][..n].copy_from_slice(point);
-                }
-                ListAnswer::Found(ListFound { nodes, points: found.len() })
-            }
+        })?;
+        if found.len() > places {
+            return Err(Refusal::ListFull(found.len()));
         }
+        for (place, (distance, point)) in found.iter().enumerate() {
+            distances[place] = *distance;
+            points[place * n..][..n].copy_from_slice(point);
+        }
+        Ok(ListFound { nodes, points: found.len() })
     }
 }
 

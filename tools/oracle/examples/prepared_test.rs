@@ -7,13 +7,9 @@
 mod common;
 use common::{printing, refusals};
 
-mod enumerate {
-    pub use super::common::{NearestAnswer, NearestPoint};
-}
-
 mod prepared {
     use super::common;
-    use super::enumerate::{NearestAnswer, NearestPoint};
+    use super::common::NearestPoint;
     use super::refusals::Refusal;
     use oracle::LARGEST_DIMENSION;
     use oracle::enumerate::{PreparedEnumerationScratch, PreparedEnumerator};
@@ -49,16 +45,13 @@ mod prepared {
         target: &[f64],
         out: &mut [i64],
         budget: u64,
-    ) -> NearestAnswer {
+    ) -> Result<NearestPoint, Refusal> {
         let n = weights.len();
         // 22 and 23 stand behind 2 to 5, which are the first that `answer` looks for, and before 9.
-        let answer = common::answer(LARGEST_DIMENSION, weights, mu, 0, None, |_, _| {
+        common::answer(LARGEST_DIMENSION, weights, mu, 0, None, |_, _| {
             matrix_fault(n, transform, inverse).map_or(Ok(()), Err)
-        });
-        if let Err(fault) = answer {
-            return NearestAnswer::Refused(fault);
-        }
-        let answer = common::answer(LARGEST_DIMENSION, weights, mu, budget, None, |table, budget| {
+        })?;
+        common::answer(LARGEST_DIMENSION, weights, mu, budget, None, |table, budget| {
             let matrix = |entries| IntMatrix::from_entries(n, entries);
             let prepared = PreparedEnumerator::from_table(table.clone(), matrix(transform), matrix(inverse));
             let scratch = &mut PreparedEnumerationScratch::new();
@@ -80,8 +73,7 @@ mod prepared {
             })?;
             let (reduced_target, point) = scratch.reduced(n);
             Ok(NearestPoint::new(table, reduced_target, point, nodes))
-        });
-        answer.into()
+        })
     }
 }
 

@@ -10,12 +10,12 @@ mod common;
 use common::{printing, refusals};
 
 mod enumerate {
-    pub use super::common::{NearestAnswer, NearestPoint};
+    pub use super::common::NearestPoint;
 }
 
 mod seeded {
     use super::common;
-    use super::enumerate::{NearestAnswer, NearestPoint};
+    use super::enumerate::NearestPoint;
     use super::refusals::Refusal;
     use oracle::enumerate::EnumerationScratch;
     use oracle::error::DecodeError;
@@ -39,10 +39,10 @@ mod seeded {
         candidate: &[i64],
         radius: f64,
         budget: u64,
-    ) -> NearestAnswer {
+    ) -> Result<NearestPoint, Refusal> {
         let n = weights.len();
         let fit = target.len() == n && out.len() == n;
-        let answer = common::answer(LARGEST_DIMENSION, weights, mu, budget, None, |table, budget| {
+        common::answer(LARGEST_DIMENSION, weights, mu, budget, None, |table, budget| {
             let scratch = &mut EnumerationScratch::new();
             let nodes = table.nearest_seeded(target, out, candidate, radius, budget, scratch);
             let nodes = nodes.map_err(|error| match error {
@@ -53,12 +53,17 @@ mod seeded {
                 _ => common::refusal(error),
             })?;
             Ok(NearestPoint::new(table, target, out, nodes))
-        });
-        answer.into()
+        })
     }
 
-    pub fn nearest_ml(weights: &[f64], mu: &[f64], target: &[f64], out: &mut [i64], budget: u64) -> NearestAnswer {
-        let answer = common::answer(LARGEST_DIMENSION, weights, mu, budget, None, |table, budget| {
+    pub fn nearest_ml(
+        weights: &[f64],
+        mu: &[f64],
+        target: &[f64],
+        out: &mut [i64],
+        budget: u64,
+    ) -> Result<NearestPoint, Refusal> {
+        common::answer(LARGEST_DIMENSION, weights, mu, budget, None, |table, budget| {
             let scratch = &mut EnumerationScratch::new();
             let nodes = table.nearest_ml(target, out, budget, scratch).map_err(|error| match error {
                 DecodeError::InvalidRadius { radius_sq } => {
@@ -69,8 +74,7 @@ mod seeded {
                 _ => common::refusal(error),
             })?;
             Ok(NearestPoint::new(table, target, out, nodes))
-        });
-        answer.into()
+        })
     }
 }
 

@@ -9,14 +9,14 @@ mod common;
 use common::{printing, refusals};
 
 mod enumerate {
-    pub use super::common::{NearestAnswer, NearestPoint};
+    pub use super::common::NearestPoint;
 }
 
 #[path = "common/kept.rs"]
 mod kept;
 
 mod turns {
-    use super::enumerate::NearestAnswer;
+    use super::enumerate::NearestPoint;
     use super::kept;
     use super::refusals::Refusal;
     use oracle::LARGEST_DIMENSION;
@@ -26,11 +26,11 @@ mod turns {
     pub struct TurnAnswer {
         pub name: u64,
         pub n: u64,
-        pub answer: NearestAnswer,
+        pub answer: Result<NearestPoint, Refusal>,
     }
 
     const fn refused(fault: Refusal) -> TurnAnswer {
-        TurnAnswer { name: 0, n: 0, answer: NearestAnswer::Refused(fault) }
+        TurnAnswer { name: 0, n: 0, answer: Err(fault) }
     }
 
     pub fn turn(
@@ -56,7 +56,7 @@ mod turns {
         let [r, i, c] = part(name);
         let n = counts[c.start];
         let answer = match put_out(&mut reals[r], &mut integers[i], &mut counts[c], slice) {
-            Some((nodes, standing)) => NearestAnswer::Refused(Refusal::BudgetExhausted(nodes, standing)),
+            Some((nodes, standing)) => Err(Refusal::BudgetExhausted(nodes, standing)),
             None => kept::pick_up(reals, integers, counts, name, &mut out[..n as usize], slice),
         };
         TurnAnswer { name, n, answer }

@@ -8,11 +8,11 @@ use Rattle.children_test.proofs.level.Goals as goal
 
 pub loop-count-init : goal.loop-count-init
 loop-count-init c =
-    let made = c.in-Open.made in
-    omega (arith, start_step _ _ _ (zigzag made) (open_of _ made (sym c.in-Open.is ∙ c.new.ensures)))
+    let g = c.in-Some.g in
+    omega (arith, start_step _ _ _ (zigzag g) (open_of _ g (sym c.in-Some.is ∙ c.new.ensures)))
 
 pub loop-count-preserved : goal.loop-count-preserved
 loop-count-preserved c =
-    let t = c.in-At.t in
-    let after = c.in-At.after in
-    omega (arith, c.loop-count.invariant, next_step (zigzag c.loop-count.g) t.z (zigzag after) (at_of _ t after (sym c.in-At.is ∙ c.next.ensures)).0)
+    let t = c.in-Some-next.t in
+    let after = c.in-Some-next.after in
+    omega (arith, c.loop-count.invariant, next_step (zigzag c.loop-count.g) t.z (zigzag after) (at_of _ t after (sym c.in-Some-next.is ∙ c.next.ensures)).0)

@@ -1,6 +1,5 @@
--- `total` sums the terms downward: the invariant holds the residuals from `depth` up beside the partial sum there. Assumes nothing.
+-- `total` sums the terms downward: the invariant holds the residuals above the level beside the partial sum there. Assumes nothing.
 use mathlib.Core.Path.{◌≡◌}
-use Prim.Native.Nat.{◌≤◌}
 use lib.ListN.{length}
 use Rattle.definitions.specs.Distance.{partial}
 use Rattle.lists.specs.Places.{places}
@@ -8,9 +7,6 @@ use Rattle.distance.specs.Residuals.{residuals}
 use Rattle.definitions.specs.Table.{table, largest_dimension}
 use Rattle.distance.proofs.total.Given as goal
 
-abbrev pub invariant-loop-depth : goal.invariant-loop-depth
-invariant-loop-depth l =
-    (l.depth ≤ l.n) × (length l.rest ≡ largest_dimension) × (places l.n l.depth l.rest ≡ residuals l.target l.depth (places l.n l.depth l.point)) × (l.sum ≡ partial (table l.weights l.mu) l.target (places l.n l.depth l.point))
-
-abbrev pub decreases-loop-depth : goal.decreases-loop-depth
-decreases-loop-depth l = l.depth
+abbrev pub invariant-loop-level : goal.invariant-loop-level
+invariant-loop-level l =
+    (length l.rest ≡ largest_dimension) × (places l.n l.level l.rest ≡ residuals l.target l.level (places l.n l.level l.point)) × (l.sum ≡ partial (table l.weights l.mu) l.target (places l.n l.level l.point))

@@ -8,7 +8,7 @@ use mathlib.Core.Bool.{false}
 use lib.ListN.{length, take}
 use lib.IntN.{ℤ}
 use borrow.Author.Tests.{lt-ltb, le-ltb}
-use Rattle.definitions.specs.Table.{table, largest_dimension}
+use Rattle.definitions.specs.Table.{table}
 use Rattle.definitions.specs.Walk.{Walked, ended}
 use Rattle.definitions.specs.Nearest.{Best, best, nearest_walk}
 use Rattle.search.specs.View.{carried, seen}
@@ -56,18 +56,10 @@ returns-then-found-eq0 c =
     let e = is_outside (n v) (end v) (walk v) (walked v) c.if-exhausted.false (le-ltb 0 c.run-end.new.found (omega (arith, c.if-found-eq0.true))) in
     record { tells = sym e; writes = sym (ap (λ (x : Walked Best). walk_output x c.args.out.now) e) }
 
--- either array is long enough: which of them is copied is said by `returns`
-pub copy_i64-requires : goal.copy_i64-requires
-copy_i64-requires c =
-    let r = c.run-end.result in
-    let point : length r.point ≡ largest_dimension = c.run-end.type_inv.1.1.0.1.0.1 in
-    let best : length r.best ≡ largest_dimension = c.run-end.type_inv.1.1.1.0.1.0.1 in
-    omega (arith, point, best, c.requires.shape.shape.small, c.requires.shape.output_length)
-
 pub returns : goal.returns
 returns c =
     let v = (goal.at.returns c).After-run-end in
     let r = c.run-end.result in
     let e = is_found (n v) (end v) (walk v) (walked v) c.if-exhausted.false (lt-ltb 0 c.run-end.new.found (omega (arith, c.if-found-eq0.false))) in
-    let o = c.copy_i64.ensures ∙ ap (λ (k : ℕ). take k r.best) c.requires.shape.output_length in
+    let o = c.copy.ensures ∙ ap (λ (k : ℕ). take k r.best) c.requires.shape.output_length in
     record { tells = ap (λ (zs : List ℤ). ended (best zs) r.radius r.nodes) o ∙ sym e; writes = o ∙ sym (ap (λ (x : Walked Best). walk_output x c.args.out.now) e) }

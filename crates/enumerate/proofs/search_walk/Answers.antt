@@ -5,11 +5,6 @@ use Rattle.definitions.proofs.Answers.{search_small, search_large}
 use Rattle.enumerate.proofs.Answers.{walked_as}
 use Rattle.enumerate.proofs.search_walk.Goals as goal
 
-pub nearest_walk-requires : goal.nearest_walk-requires
-nearest_walk-requires c =
-    let p = c.requires in
-    record { shape = record { shape = record { small = c.if-weights-le-LARGEST_DIMENSION.true; square = p.shape.shape.square; target_length = p.shape.shape.target_length }; output_length = p.shape.output_length }; bounded = p.bounded }
-
 pub returns-then-weights-le-LARGEST_DIMENSION : goal.returns-then-weights-le-LARGEST_DIMENSION
 returns-then-weights-le-LARGEST_DIMENSION c =
     let a = c.args in

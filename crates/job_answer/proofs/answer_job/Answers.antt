@@ -1,41 +1,44 @@
 -- `answer_job`: the text of the job read, where there is room. Assumes nothing.
-use mathlib.Core.Path.{ap, sym, ◌∙◌}
+use mathlib.Core.Path.{◌≡◌, ap, sym, subst, ◌∙◌}
+use mathlib.Core.List.{List, ◌++◌}
+use Prim.Native.Nat.{ℕ, ◌≤◌}
 use native.Mathlib.Omega.{arith}
-use lib.ListN.{length}
-use lib.Seq.{length-take-le}
+use lib.ListN.{length, drop}
+use Rattle.std.specs.Prelude.{Ok, Err}
 use Rattle.definitions.specs.JobText.{job_text, job_output}
-use Rattle.lists.specs.Over.{over}
-use Rattle.writing.proofs.Texts.{written_length}
-use Rattle.job_answer.proofs.Answers.{text_length, text_start, too_short_answer, bytes_answer}
-use borrow.Author.Rules.{rules}
+use Rattle.reading.specs.View.{layout_read}
+use Rattle.job_answer.specs.Sizes.{output_size}
+use Rattle.job_answer.specs.Answer.{JobAnswered}
+use Rattle.job_answer.proofs.Answers.{too_short_answer, written_answer}
 use Rattle.job_answer.proofs.answer_job.Goals as goal
+use Rattle.job_answer.proofs.answer_job.Goals.{After-as_slice-bytes}
+
+-- the bytes are the text of the job read
+module _ (c : After-as_slice-bytes) where
+  abbrev bytes : List ℕ
+  bytes = c.as_slice-bytes.result.now
+
+  text : bytes ≡ job_text (layout_read c.read.result)
+  text = c.as_slice-bytes.ensures ∙ c.job_text.ensures.bytes ∙ ap (λ (l : List ℕ). l ++ job_text (layout_read c.read.result)) c.new-text.ensures
+
+  output : bytes ≡ job_output c.args.input.now
+  unfolding job_output
+  output = text ∙ ap job_text c.read.ensures.means
+
+  few : length bytes ≤ output_size
+  few = omega (arith, ap length text, c.job_text.ensures.within)
 
 pub returns-then-out-count : goal.returns-then-out-count
-unfolding job_output
 returns-then-out-count c =
-    let a = c.args in
-    let w = c.job_text-count.ensures in
-    let count = text_length w ∙ ap length (ap job_text c.read.ensures.means) in
-    too_short_answer (job_output a.input.now) a.out.now c.job_text-count.result count w.within c.if-out-count.true
-
-pub slice_bounds-put-end : goal.slice_bounds-put-end
-slice_bounds-put-end c =
-    let w = c.job_text-count.ensures in
-    sym (length-take-le _ _ (omega (arith, w.room, written_length w)))
-
-pub put-requires : goal.put-requires
-put-requires c =
-    let w = c.job_text-count.ensures in
-    let all = length-take-le c.job_text-count.result c.job_text-count.new.out (omega (arith, w.room, written_length w)) in
-    omega (arith, all, c.if-out-count.false)
+    let s = (goal.at.returns-then-out-count c).After-as_slice-bytes in
+    let out = c.args.out.now in
+    subst (λ (t : List ℕ). JobAnswered t out (Err (record { needed = length (bytes s) })) out) (output s) (too_short_answer (bytes s) out (few s) c.if-out-count.true)
 
 pub returns : goal.returns
-unfolding job_output
 returns c =
-    let a = c.args in
-    let w = c.job_text-count.ensures in
-    let same = ap job_text c.read.ensures.means in
-    bytes_answer (job_output a.input.now) a.out.now c.job_text-count.result (text_length w ∙ ap length same) w.within _ c.if-out-count.false (c.put.ensures.bytes ∙ ap (over a.out.now 0) (text_start w ∙ same))
-
-pub job_text-count-requires : goal.job_text-count-requires
-job_text-count-requires c = record { room = search rules; shape = c.read.ensures.shape }
+    let s = (goal.at.returns c).After-as_slice-bytes in
+    let out = c.args.out.now in
+    let rest = drop (length (bytes s)) out in
+    let answer = written_answer (bytes s) out (few s) c.if-out-count.false in
+    subst (λ (t : List ℕ). JobAnswered t out (Ok (length (bytes s))) (c.copy_from_slice.new.self ++ rest)) (output s)
+    (subst (JobAnswered (bytes s) out (Ok (length (bytes s)))) (sym (ap (λ (l : List ℕ). l ++ rest) c.copy_from_slice.ensures.after)) answer)

@@ -1,32 +1,26 @@
 -- `list_lines`: the parts of the text stand one after the other. Assumes nothing.
-use mathlib.Core.Path.{ap, sym, subst, ◌∙◌}
+use mathlib.Core.Path.{ap, sym, ◌∙◌}
 use native.Mathlib.Omega.{arith}
+use Rattle.std.specs.Prelude.{Result}
 use Rattle.definitions.specs.JobText.{text, refusal_line}
-use Rattle.listing.specs.declared.ListAnswer.{ListAnswer}
+use Rattle.listing.specs.declared.ListFound.{ListFound}
+use Rattle.refusals.specs.declared.Refusal.{Refusal}
 use Rattle.refusals.specs.declared.Carried.{Carried}
-use Rattle.writing.proofs.Texts.{written_then, written_as}
-use Rattle.job_answer.specs.Sizes.{list_size}
+use Rattle.writing.proofs.Texts.{appended_then, appended_as}
 use Rattle.job_answer.specs.Texts.{list_text, points_of}
-use Rattle.job_answer.specs.Room.{LinesRoom}
 use Rattle.job_answer.proofs.list_lines.Goals as goal
 
-pub listed_lines-requires : goal.listed_lines-requires
-listed_lines-requires c =
-    let a = c.args in
-    let pre = subst (λ (x : ListAnswer). LinesRoom a.out.now a.at (list_size (points_of x)) a.n (points_of x) a.distances.now a.points.now) c.in-Found.is c.requires in
-    record { room = omega (arith, pre.room); small = pre.small; few_distances = pre.few_distances; few_points = pre.few_points }
-
-pub returns-in-Found : goal.returns-in-Found
+pub returns-in-Ok : goal.returns-in-Ok
 unfolding text
-returns-in-Found c =
+returns-in-Ok c =
     let a = c.args in
-    let three = written_then (written_then c.put-after_word.ensures c.decimal-after_nodes.ensures) c.put-after_blank.ensures in
-    let head = written_then (written_then three c.decimal-after_count.ensures) c.put-after_line.ensures in
-    written_as (written_then head c.listed_lines.ensures) (sym (ap (λ (x : ListAnswer). list_text x a.n a.distances.now a.points.now) c.in-Found.is)) (omega (arith, ap points_of c.in-Found.is))
+    let three = appended_then (appended_then c.put.ensures c.decimal.ensures) c.put-in-Ok.ensures in
+    let head = appended_then (appended_then three c.decimal-in-Ok.ensures) c.put-in-Ok-2.ensures in
+    appended_as (appended_then head c.listed_lines.ensures) (sym (ap (λ (x : Result ListFound Refusal). list_text x a.n a.distances.now a.points.now) c.in-Ok.is)) (omega (arith, ap points_of c.in-Ok.is))
 
-pub returns-in-Refused : goal.returns-in-Refused
+pub returns-in-Err : goal.returns-in-Err
 unfolding text
-returns-in-Refused c =
+returns-in-Err c =
     let a = c.args in
-    let same = ap (λ (x : Carried). refusal_line (text "list") x.number) c.numbers-values.ensures ∙ sym (ap (λ (x : ListAnswer). list_text x a.n a.distances.now a.points.now) c.in-Refused.is) in
-    written_as c.refusal_line.ensures same (omega arith)
+    let same = ap (λ (x : Carried). refusal_line (text "list") x.number) c.from.ensures ∙ sym (ap (λ (x : Result ListFound Refusal). list_text x a.n a.distances.now a.points.now) c.in-Err.is) in
+    appended_as c.refusal_line.ensures same (omega arith)

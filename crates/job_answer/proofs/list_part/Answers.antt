@@ -16,65 +16,49 @@ use Rattle.definitions.proofs.Settings.{settings_passed}
 use Rattle.lists.proofs.Repeats.{repeat_prefix}
 use Rattle.reading.specs.Parts.{ArrayHolds}
 use Rattle.reading.specs.View.{settings_read}
-use Rattle.reading.proofs.Arrays.{square_fits}
-use Rattle.writing.proofs.Texts.{written_then, written_as}
+use Rattle.writing.proofs.Texts.{appended_length, appended_then, appended_as}
 use Rattle.job_answer.specs.Texts.{points_of}
-use Rattle.job_answer.proofs.Jobs.{coordinate_places, weights_length, target_length, mu_fits, mu_length, points_fit, list_lent, list_coordinates, distances_held, first_held, points_held}
+use Rattle.job_answer.proofs.Jobs.{coordinate_places, points_fit, list_lent, list_coordinates, distances_held, first_held, points_held}
 use Rattle.job_answer.proofs.Lists.{part_text, points_few}
 use Rattle.job_answer.proofs.list_part.Goals as goal
 use Rattle.job_answer.proofs.list_part.Goals.{After-list-answer, Start}
 
 -- the settings have passed
-passed : (s : Start) → SettingsInRange (settings_read s.args.job.settings)
+passed : (s : Start) → SettingsInRange (settings_read s.args.job.now.settings)
 passed s = settings_passed _ s.requires.settings
 
 -- the arrays after the list
 module _ (c : After-list-answer) where
-  limit : c.args.job.settings.places ≤ largest_places
+  limit : c.args.job.now.settings.places ≤ largest_places
   limit = (settings_passed _ c.requires.settings).places_most
 
-  lent_distances : length c.list-answer.new.distances ≡ c.args.job.settings.places
+  lent_distances : length c.list-answer.new.distances ≡ c.args.job.now.settings.places
   lent_distances =
-      let whole = repeat_prefix largest_places c.args.job.settings.places (of_bits binary64 0) limit in
+      let whole = repeat_prefix largest_places c.args.job.now.settings.places (of_bits binary64 0) limit in
       omega (arith, whole, c.list-answer.auto.distances)
 
-  lent_points : length c.list-answer.new.points ≡ c.args.job.n * c.args.job.settings.places
+  lent_points : length c.list-answer.new.points ≡ c.args.job.now.n * c.args.job.now.settings.places
   lent_points =
-      let whole = repeat_prefix coordinate_places (c.args.job.n * c.args.job.settings.places) (pos 0) (points_fit c.requires.shape limit) in
+      let whole = repeat_prefix coordinate_places (c.args.job.now.n * c.args.job.now.settings.places) (pos 0) (points_fit c.requires.shape limit) in
       omega (arith, whole, c.list-answer.auto.points)
 
-  distances : ArrayHolds largest_places c.args.job.settings.places c.list-answer.new.distances (c.list-answer.new.distances ++ drop c.args.job.settings.places (replicate largest_places (of_bits binary64 0)))
+  distances : ArrayHolds largest_places c.args.job.now.settings.places c.list-answer.new.distances (c.list-answer.new.distances ++ drop c.args.job.now.settings.places (replicate largest_places (of_bits binary64 0)))
   distances = distances_held c.requires.shape limit c.list-answer.ensures lent_distances
 
-  points : ArrayHolds coordinate_places (c.args.job.n * c.args.job.settings.places) c.list-answer.new.points (c.list-answer.new.points ++ drop (c.args.job.n * c.args.job.settings.places) (replicate coordinate_places (pos 0)))
+  points : ArrayHolds coordinate_places (c.args.job.now.n * c.args.job.now.settings.places) c.list-answer.new.points (c.list-answer.new.points ++ drop (c.args.job.now.n * c.args.job.now.settings.places) (replicate coordinate_places (pos 0)))
   points = points_held c.requires.shape limit c.list-answer.ensures lent_points
 
   -- no more points than places
-  few : points_of c.list-answer.result ≤ c.args.job.settings.places
+  few : points_of c.list-answer.result ≤ c.args.job.now.settings.places
   few =
-      let places = repeat_prefix largest_places c.args.job.settings.places (of_bits binary64 0) limit in
+      let places = repeat_prefix largest_places c.args.job.now.settings.places (of_bits binary64 0) limit in
       let most = points_few c.list-answer.ensures c.list-answer.auto.distances in
       omega (arith, places, most)
-
-pub overflow_mul-size : goal.overflow_mul-size
-overflow_mul-size c = let few = square_fits _ c.requires.shape.small in record { fits = omega arith }
 
 pub overflow_mul-coordinates : goal.overflow_mul-coordinates
 overflow_mul-coordinates c =
     let most = points_fit c.requires.shape (passed (goal.at.overflow_mul-coordinates c).Start).places_most in
     record { fits = omega arith }
-
-pub slice_bounds-list-end : goal.slice_bounds-list-end
-slice_bounds-list-end c = weights_length c.requires.shape
-
-pub slice_bounds-mu-end : goal.slice_bounds-mu-end
-slice_bounds-mu-end c = mu_fits c.requires.shape
-
-pub slice_bounds-list-end-2 : goal.slice_bounds-list-end-2
-slice_bounds-list-end-2 c = mu_length c.requires.shape
-
-pub slice_bounds-list-end-3 : goal.slice_bounds-list-end-3
-slice_bounds-list-end-3 c = target_length c.requires.shape
 
 pub slice_bounds-distances-end : goal.slice_bounds-distances-end
 slice_bounds-distances-end c = (passed (goal.at.slice_bounds-distances-end c).Start).places_most
@@ -82,7 +66,7 @@ slice_bounds-distances-end c = (passed (goal.at.slice_bounds-distances-end c).St
 pub slice_bounds-list-end-4 : goal.slice_bounds-list-end-4
 slice_bounds-list-end-4 c =
     let s = (goal.at.slice_bounds-list-end-4 c).Start in
-    sym (repeat_prefix largest_places s.args.job.settings.places (of_bits binary64 0) (passed s).places_most)
+    sym (repeat_prefix largest_places s.args.job.now.settings.places (of_bits binary64 0) (passed s).places_most)
 
 pub slice_bounds-points-end : goal.slice_bounds-points-end
 slice_bounds-points-end c = let s = (goal.at.slice_bounds-points-end c).Start in points_fit s.requires.shape (passed s).places_most
@@ -90,7 +74,7 @@ slice_bounds-points-end c = let s = (goal.at.slice_bounds-points-end c).Start in
 pub slice_bounds-list-end-5 : goal.slice_bounds-list-end-5
 slice_bounds-list-end-5 c =
     let s = (goal.at.slice_bounds-list-end-5 c).Start in
-    sym (repeat_prefix coordinate_places (s.args.job.n * s.args.job.settings.places) (pos 0) (points_fit s.requires.shape (passed s).places_most))
+    sym (repeat_prefix coordinate_places (s.args.job.now.n * s.args.job.now.settings.places) (pos 0) (points_fit s.requires.shape (passed s).places_most))
 
 pub slice_bounds-distances-end-2 : goal.slice_bounds-distances-end-2
 slice_bounds-distances-end-2 c =
@@ -112,12 +96,12 @@ slice_bounds-list_lines-end-2 c =
     let s = (goal.at.slice_bounds-list_lines-end-2 c).After-list-answer in
     sym (length-take-le _ _ (omega (arith, (points s).size, points_fit c.requires.shape (limit s))))
 
-pub list_lines-after_list-requires : goal.list_lines-after_list-requires
-list_lines-after_list-requires c =
-    let s = (goal.at.list_lines-after_list-requires c).After-list-answer in
-    let n = c.args.job.n in
+pub list_lines-requires : goal.list_lines-requires
+list_lines-requires c =
+    let s = (goal.at.list_lines-requires c).After-list-answer in
+    let n = c.args.job.now.n in
     let wide = mul-le-mul_right n (few s) in
-    let product = mul_comm c.args.job.settings.places n in
+    let product = mul_comm c.args.job.now.settings.places n in
     record {
       room = omega (arith, c.requires.room, few s, limit s);
       small = c.requires.shape.small;
@@ -141,15 +125,15 @@ verdict-ratio-requires c = (passed (goal.at.verdict-ratio-requires c).Start).fac
 pub ratio_line-requires : goal.ratio_line-requires
 ratio_line-requires c =
     let s = (goal.at.ratio_line-requires c).After-list-answer in
-    omega (arith, c.requires.room, c.list_lines-after_list.ensures.within, few s, limit s)
+    omega (arith, c.requires.room, c.list_lines.ensures.within, appended_length c.list_lines.ensures, few s, limit s)
 
 pub returns : goal.returns
 returns c =
     let s = (goal.at.returns c).After-list-answer in
     let shape = c.requires.shape in
-    let j = c.args.job in
+    let j = c.args.job.now in
     let most = few s in
     let those = first_held shape (limit s) c.list-answer.ensures (lent_distances s) c.points_of-found.ensures most in
     let text = part_text c.list-answer.ensures j.settings.p j.settings.q j.radius (list_coordinates shape _ _) (distances s).first (points s).first those c.verdict-ratio.ensures in
     let same = text ∙ ap (λ (l : C.Answer C.ListAnswer). list_lines l ++ ratio_line (list_ratio j.settings.p j.settings.q l j.radius)) (list_lent shape (limit s)) in
-    written_as (written_then c.list_lines-after_list.ensures c.ratio_line.ensures) same (omega (arith, most, limit s))
+    appended_as (appended_then c.list_lines.ensures c.ratio_line.ensures) same (omega (arith, most, limit s))

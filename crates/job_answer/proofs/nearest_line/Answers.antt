@@ -1,22 +1,24 @@
 -- `nearest_line`: the parts of the line stand one after the other. Assumes nothing.
 use mathlib.Core.Path.{ap, sym, ◌∙◌}
 use native.Mathlib.Omega.{arith}
+use Rattle.std.specs.Prelude.{Result}
 use Rattle.definitions.specs.JobText.{text, nearest_line, refusal_line}
-use Rattle.enumerate.specs.declared.NearestAnswer.{NearestAnswer}
+use Rattle.enumerate.specs.declared.NearestPoint.{NearestPoint}
 use Rattle.enumerate.specs.View.{nearest_answer}
+use Rattle.refusals.specs.declared.Refusal.{Refusal}
 use Rattle.refusals.specs.declared.Carried.{Carried}
-use Rattle.writing.proofs.Texts.{written_then, written_as}
+use Rattle.writing.proofs.Texts.{appended_then, appended_as}
 use Rattle.job_answer.proofs.nearest_line.Goals as goal
 
-pub returns-in-Found : goal.returns-in-Found
+pub returns-in-Ok : goal.returns-in-Ok
 unfolding text nearest_line
-returns-in-Found c =
-    let head = written_then (written_then c.put-after_word.ensures c.decimal-after_count.ensures) c.put-after_blank.ensures in
-    let line = written_then (written_then (written_then head c.hexadecimal-after_distance.ensures) c.point-after_point.ensures) c.put.ensures in
-    written_as line (sym (ap (λ (x : NearestAnswer). nearest_line (nearest_answer x c.args.zs.now)) c.in-Found.is)) (omega (arith, c.requires.few))
+returns-in-Ok c =
+    let head = appended_then (appended_then c.put.ensures c.decimal.ensures) c.put-in-Ok.ensures in
+    let line = appended_then (appended_then (appended_then head c.hexadecimal.ensures) c.point.ensures) c.put-in-Ok-2.ensures in
+    appended_as line (sym (ap (λ (x : Result NearestPoint Refusal). nearest_line (nearest_answer x c.args.zs.now)) c.in-Ok.is)) (omega (arith, c.requires.few))
 
-pub returns-in-Refused : goal.returns-in-Refused
+pub returns-in-Err : goal.returns-in-Err
 unfolding text nearest_line
-returns-in-Refused c =
-    let same = ap (λ (x : Carried). refusal_line (text "nearest") x.number) c.numbers-values.ensures ∙ sym (ap (λ (x : NearestAnswer). nearest_line (nearest_answer x c.args.zs.now)) c.in-Refused.is) in
-    written_as c.refusal_line.ensures same (omega arith)
+returns-in-Err c =
+    let same = ap (λ (x : Carried). refusal_line (text "nearest") x.number) c.from.ensures ∙ sym (ap (λ (x : Result NearestPoint Refusal). nearest_line (nearest_answer x c.args.zs.now)) c.in-Err.is) in
+    appended_as c.refusal_line.ensures same (omega arith)

@@ -6,14 +6,14 @@ use native.Mathlib.Omega.{arith}
 use Rattle.definitions.specs.JobText.{text, ratio_word, ratio_line}
 use Rattle.ratio.specs.declared.Ratio.{Ratio}
 use Rattle.ratio.specs.View.{verdict_of}
-use Rattle.writing.specs.Written.{Written}
-use Rattle.writing.proofs.Texts.{written_as}
+use Rattle.writing.specs.Appended.{Appended}
+use Rattle.writing.proofs.Texts.{appended_as}
 use Rattle.job_answer.specs.Sizes.{ratio_size}
 use Rattle.job_answer.proofs.ratio_line.Goals as goal
 
 -- the line that was put is that of the verdict that the match found
-matched : {out after line : List ℕ} {at next size : ℕ} {ratio verdict : Ratio} → ratio ≡ verdict → Written out at line size next after → line ≡ ratio_line (verdict_of verdict) → size ≤ ratio_size → Written out at (ratio_line (verdict_of ratio)) ratio_size next after
-matched is put same few = written_as put (same ∙ sym (ap (λ (r : Ratio). ratio_line (verdict_of r)) is)) few
+matched : {before after line : List ℕ} {size : ℕ} {ratio verdict : Ratio} → ratio ≡ verdict → Appended before line size after → line ≡ ratio_line (verdict_of verdict) → size ≤ ratio_size → Appended before (ratio_line (verdict_of ratio)) ratio_size after
+matched is put same few = appended_as put (same ∙ sym (ap (λ (r : Ratio). ratio_line (verdict_of r)) is)) few
 
 -- for each verdict what is written
 pub returns-in-Holds : goal.returns-in-Holds

@@ -9,6 +9,7 @@ use Rattle.definitions.specs.Block.{Block, block_checks}
 use Rattle.parts.specs.Parts.{block}
 use Rattle.kept.proofs.Checks.{name_low, name_high, name_passes, length_refuses, length_passes, no_check_left}
 use Rattle.kept.proofs.block_check.Goals as goal
+use Rattle.kept.proofs.block_check.Goals.{then-name-lt1-via-then-name-lt1, then-name-lt1-via-else-name-lt1+then-name-gt8}
 
 -- what is left of the checks
 module _ (b : Block) where
@@ -33,37 +34,36 @@ module _ (b : Block) where
 pub returns-then-name-lt1 : goal.returns-then-name-lt1
 returns-then-name-lt1 c =
     let a = c.args in
-    name_low (block_checks (block a.reals.now a.integers.now a.counts.now)) a.name c.if-name-lt1.true
+    let checks = block_checks (block a.reals.now a.integers.now a.counts.now) in
+    elim c.then-name-lt1.branch [
+      | then-name-lt1-via-then-name-lt1 w ↦ name_low checks a.name w.if-name-lt1.true
+      | then-name-lt1-via-else-name-lt1+then-name-gt8 w ↦ name_high checks a.name w.if-name-lt1.false w.if-name-gt8.true
+    ]
 
-pub returns-then-name-gt8 : goal.returns-then-name-gt8
-returns-then-name-gt8 c =
-    let a = c.args in
-    name_high (block_checks (block a.reals.now a.integers.now a.counts.now)) a.name c.if-name-lt1.false c.if-name-gt8.true
-
-pub returns-then-reals-ne5168 : goal.returns-then-reals-ne5168
-returns-then-reals-ne5168 c =
-    let a = c.args in
-    let b = block a.reals.now a.integers.now a.counts.now in
-    length_refuses (from_integers b) 5168 (length b.reals) c.if-reals-ne5168.true ∙ sym (named b a.name c.if-name-lt1.false c.if-name-gt8.false)
-
-pub returns-then-integers-ne736 : goal.returns-then-integers-ne736
-returns-then-integers-ne736 c =
+pub returns-then-reals-ne-REALS : goal.returns-then-reals-ne-REALS
+returns-then-reals-ne-REALS c =
     let a = c.args in
     let b = block a.reals.now a.integers.now a.counts.now in
-    length_refuses (from_counts b) 736 (length b.integers) c.if-integers-ne736.true
-    ∙ sym (reals_pass b a.name c.if-name-lt1.false c.if-name-gt8.false c.if-reals-ne5168.false)
+    length_refuses (from_integers b) 5168 (length b.reals) c.if-reals-ne-REALS.true ∙ sym (named b a.name c.if-name-lt1.false c.if-name-gt8.false)
 
-pub returns-then-counts-ne768 : goal.returns-then-counts-ne768
-returns-then-counts-ne768 c =
+pub returns-then-integers-ne-INTEGERS : goal.returns-then-integers-ne-INTEGERS
+returns-then-integers-ne-INTEGERS c =
     let a = c.args in
     let b = block a.reals.now a.integers.now a.counts.now in
-    length_refuses [] 768 (length b.counts) c.if-counts-ne768.true
-    ∙ sym (integers_pass b a.name c.if-name-lt1.false c.if-name-gt8.false c.if-reals-ne5168.false c.if-integers-ne736.false)
+    length_refuses (from_counts b) 736 (length b.integers) c.if-integers-ne-INTEGERS.true
+    ∙ sym (reals_pass b a.name c.if-name-lt1.false c.if-name-gt8.false c.if-reals-ne-REALS.false)
+
+pub returns-then-counts-ne-COUNTS : goal.returns-then-counts-ne-COUNTS
+returns-then-counts-ne-COUNTS c =
+    let a = c.args in
+    let b = block a.reals.now a.integers.now a.counts.now in
+    length_refuses [] 768 (length b.counts) c.if-counts-ne-COUNTS.true
+    ∙ sym (integers_pass b a.name c.if-name-lt1.false c.if-name-gt8.false c.if-reals-ne-REALS.false c.if-integers-ne-INTEGERS.false)
 
 pub returns : goal.returns
 returns c =
     let a = c.args in
     let b = block a.reals.now a.integers.now a.counts.now in
-    sym (integers_pass b a.name c.if-name-lt1.false c.if-name-gt8.false c.if-reals-ne5168.false c.if-integers-ne736.false
-    ∙ length_passes [] 768 (length b.counts) c.if-counts-ne768.false
+    sym (integers_pass b a.name c.if-name-lt1.false c.if-name-gt8.false c.if-reals-ne-REALS.false c.if-integers-ne-INTEGERS.false
+    ∙ length_passes [] 768 (length b.counts) c.if-counts-ne-COUNTS.false
     ∙ no_check_left)

@@ -1,24 +1,17 @@
--- `is_identity` meets its contract: the rows passed are the identity's. Assumes nothing.
-use mathlib.Core.Path.{sym, ◌∙◌}
+-- `is_identity` meets its contract: `all` tests the rows. Assumes nothing.
+use mathlib.Core.Path.{refl, sym, ◌∙◌}
+use mathlib.Core.Bool.{Bool, true, false}
+use Prim.Native.Nat.{ℕ}
 use native.Mathlib.Omega.{arith}
-use borrow.Author.Count.{below_none, below_more}
-use Rattle.definitions.proofs.Prepared.{each_passes, each_fails, identity_is}
+use borrow.Author.Rules.{rules}
+use Rattle.std.proofs.lemmas.Iterator.{cases_from_all, YieldsList-from_range}
+use Rattle.definitions.specs.Prepared.{each_below, same_integer, product_element, identity_element}
+use Rattle.definitions.proofs.Prepared.{identity_is}
+use Rattle.matrices.proofs.Elements.{Answered, each_tested}
 use Rattle.matrices.proofs.is_identity.Goals as goal
-use Rattle.matrices.proofs.is_identity.Invariants.{agrees}
-
-pub loop-row-init : goal.loop-row-init
-loop-row-init c = (omega arith, below_none _)
-
-pub returns-then-not-row_agrees : goal.returns-then-not-row_agrees
-returns-then-not-row_agrees c =
-    let a = c.args in
-    sym (identity_is a.n a.a.now a.b.now ∙ each_fails a.n c.loop-row.row (agrees a.n a.a.now a.b.now) (omega arith) (sym c.row_agrees.ensures ∙ c.if-not-row_agrees.true))
-
-pub loop-row-preserved : goal.loop-row-preserved
-loop-row-preserved c =
-    (omega arith, below_more _ _ c.loop-row.invariant.1 (sym c.row_agrees.ensures ∙ c.if-not-row_agrees.false))
 
 pub returns : goal.returns
 returns c =
     let a = c.args in
-    sym (identity_is a.n a.a.now a.b.now ∙ each_passes a.n (agrees a.n a.a.now a.b.now) (λ k below. c.loop-row.invariant.1 k (omega arith)))
+    let test : ℕ → Bool = λ row. each_below a.n (λ column. same_integer (product_element a.n a.a.now a.b.now row column) (identity_element row column)) in
+    each_tested a.n test _ (cases_from_all _ _ c.all.result (Answered a.n test true) (Answered a.n test false) c.all.ensures.ran (YieldsList-from_range 0 a.n a.n refl (omega arith)) (λ x q k. (search rules, λ below. search rules)) (λ x q k below. search rules)) ∙ sym (identity_is a.n a.a.now a.b.now)

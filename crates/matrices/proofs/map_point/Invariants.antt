@@ -2,7 +2,7 @@
 use mathlib.Core.Path.{◌≡◌}
 use mathlib.Core.Bool.{Bool, false, not}
 use mathlib.Core.List.{List}
-use Prim.Native.Nat.{ℕ, ◌-◌, ◌<◌}
+use Prim.Native.Nat.{ℕ, ◌<◌}
 use lib.IntN.{ℤ, pos}
 use lib.ListN.{length}
 use Rattle.rounding.specs.Integers.{is_i64}
@@ -16,6 +16,3 @@ fault n transform point column = not (is_i64 (mapped_coordinate n transform poin
 abbrev pub invariant-loop-column : goal.invariant-loop-column
 invariant-loop-column l =
     Filled (mapped_coordinate (length l.initial.mapped) l.transform l.point) (pos 0) (length l.initial.mapped) l.mapped l.column × ((k : ℕ) → k < l.column → fault (length l.initial.mapped) l.transform l.point k ≡ false)
-
-abbrev pub decreases-loop-column : goal.decreases-loop-column
-decreases-loop-column l = length l.initial.mapped - l.column

@@ -1,24 +1,16 @@
--- `row_agrees` meets its contract: the elements passed are the identity's. Assumes nothing.
-use mathlib.Core.Path.{sym, ◌∙◌}
+-- `row_agrees` meets its contract: `all` tests the row's elements. Assumes nothing.
+use mathlib.Core.Path.{refl}
+use mathlib.Core.Bool.{Bool, true, false}
+use Prim.Native.Nat.{ℕ}
 use native.Mathlib.Omega.{arith}
-use borrow.Author.Count.{below_none, below_more}
-use Rattle.definitions.proofs.Prepared.{each_passes, each_fails}
+use borrow.Author.Rules.{rules}
+use Rattle.std.proofs.lemmas.Iterator.{cases_from_all, YieldsList-from_range}
+use Rattle.definitions.specs.Prepared.{same_integer, product_element, identity_element}
+use Rattle.matrices.proofs.Elements.{Answered, each_tested}
 use Rattle.matrices.proofs.row_agrees.Goals as goal
-use Rattle.matrices.proofs.row_agrees.Invariants.{agrees}
-
-pub loop-column-init : goal.loop-column-init
-loop-column-init c = (omega arith, below_none _)
-
-pub returns-then-not-element_agrees : goal.returns-then-not-element_agrees
-returns-then-not-element_agrees c =
-    let a = c.args in
-    sym (each_fails a.n c.loop-column.column (agrees a.n a.a.now a.b.now a.row) (omega arith) (sym c.element_agrees.ensures ∙ c.if-not-element_agrees.true))
-
-pub loop-column-preserved : goal.loop-column-preserved
-loop-column-preserved c =
-    (omega arith, below_more _ _ c.loop-column.invariant.1 (sym c.element_agrees.ensures ∙ c.if-not-element_agrees.false))
 
 pub returns : goal.returns
 returns c =
     let a = c.args in
-    sym (each_passes a.n (agrees a.n a.a.now a.b.now a.row) (λ k below. c.loop-column.invariant.1 k (omega arith)))
+    let test : ℕ → Bool = λ column. same_integer (product_element a.n a.a.now a.b.now a.row column) (identity_element a.row column) in
+    each_tested a.n test _ (cases_from_all _ _ c.all.result (Answered a.n test true) (Answered a.n test false) c.all.ensures.ran (YieldsList-from_range 0 a.n a.n refl (omega arith)) (λ x q k. (search rules, λ below. search rules)) (λ x q k below. search rules))

@@ -1,5 +1,5 @@
 -- `transform_target` meets its contract: the coordinates passed are written. Assumes nothing.
-use Prim.Native.Nat.{ℕ, ◌-◌}
+use Prim.Native.Nat.{ℕ}
 use mathlib.Core.List.{List}
 use lib.IntN.{ℤ}
 use lib.ListN.{length}
@@ -13,6 +13,3 @@ coordinates n inverse target column = transformed_sum n inverse target column n
 
 abbrev pub invariant-loop-column : goal.invariant-loop-column
 invariant-loop-column l = Filled (coordinates (length l.initial.transformed) l.inverse l.target) nan (length l.initial.transformed) l.transformed l.column
-
-abbrev pub decreases-loop-column : goal.decreases-loop-column
-decreases-loop-column l = length l.initial.transformed - l.column

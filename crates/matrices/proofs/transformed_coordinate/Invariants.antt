@@ -1,11 +1,7 @@
 -- `transformed_coordinate` meets its contract: the total is that of the rows passed. Assumes nothing.
 use mathlib.Core.Path.{◌≡◌}
-use Prim.Native.Nat.{◌≤◌, ◌-◌}
 use Rattle.definitions.specs.Prepared.{transformed_sum}
 use Rattle.matrices.proofs.transformed_coordinate.Given as goal
 
 abbrev pub invariant-loop-row : goal.invariant-loop-row
-invariant-loop-row l = (l.row ≤ l.n) × (l.total ≡ transformed_sum l.n l.inverse l.target l.column l.row)
-
-abbrev pub decreases-loop-row : goal.decreases-loop-row
-decreases-loop-row l = l.n - l.row
+invariant-loop-row l = l.total ≡ transformed_sum l.n l.inverse l.target l.column l.row

@@ -8,30 +8,20 @@ use Rattle.parts.proofs.read_walk.Goals as goal
 pub slice_bounds-point-end : goal.slice_bounds-point-end
 slice_bounds-point-end c = small c.requires
 
-pub slice_bounds-copy_i64-end : goal.slice_bounds-copy_i64-end
-slice_bounds-copy_i64-end c = sym (lent_length _ (small c.requires))
-
-pub copy_i64-requires : goal.copy_i64-requires
-copy_i64-requires c =
-    let r = c.requires in
-    omega (arith, lent_length _ (small r), small r, r.lengths.integers_length)
+pub slice_bounds-copy-end : goal.slice_bounds-copy-end
+slice_bounds-copy-end c = sym (lent_length _ (small c.requires))
 
 pub overflow_add-end : goal.overflow_add-end
 overflow_add-end c = record { fits = omega (arith, small c.requires) }
 
-pub slice_bounds-copy_i64-end-2 : goal.slice_bounds-copy_i64-end-2
-slice_bounds-copy_i64-end-2 c = best_inside c.requires
+pub slice_bounds-copy-end-2 : goal.slice_bounds-copy-end-2
+slice_bounds-copy-end-2 c = best_inside c.requires
 
 pub slice_bounds-best-end : goal.slice_bounds-best-end
 slice_bounds-best-end c = small c.requires
 
-pub slice_bounds-copy_i64-end-3 : goal.slice_bounds-copy_i64-end-3
-slice_bounds-copy_i64-end-3 c = sym (lent_length _ (small c.requires))
-
-pub copy_i64-requires-2 : goal.copy_i64-requires-2
-copy_i64-requires-2 c =
-    let r = c.requires in
-    omega (arith, lent_length _ (small r), best_length r)
+pub slice_bounds-copy-end-3 : goal.slice_bounds-copy-end-3
+slice_bounds-copy-end-3 c = sym (lent_length _ (small c.requires))
 
 pub returns : goal.returns
 returns c =
@@ -39,7 +29,7 @@ returns c =
     let long = point_inside r in
     let whole = le_of_eq (sym (best_length r)) in
     walk_read r c.read_levels-levels.result c.read_levels-levels.ensures _ _
-    (copy_length _ (small r) _ _ long c.copy_i64.ensures)
-    (copy_is _ (small r) _ _ long c.copy_i64.ensures)
-    (copy_length _ (small r) _ _ whole c.copy_i64-2.ensures)
-    (copy_is _ (small r) _ _ whole c.copy_i64-2.ensures ∙ best_copied r)
+    (copy_length _ (small r) _ _ long c.copy.ensures)
+    (copy_is _ (small r) _ _ long c.copy.ensures)
+    (copy_length _ (small r) _ _ whole c.copy-2.ensures)
+    (copy_is _ (small r) _ _ whole c.copy-2.ensures ∙ best_copied r)

@@ -1,8 +1,7 @@
 -- `write_walk`: five calls, whose slices together are the part of the walk's machine. Assumes nothing.
-use mathlib.Core.Path.{sym}
 use Prim.Native.Nat.{◌-◌, ◌<◌}
 use native.Mathlib.Omega.{arith}
-use Rattle.parts.proofs.Written.{few, low_few, point_size_lem, point_ready, best_ready, second_length, walk_written}
+use Rattle.parts.proofs.Written.{few, low_few, point_ready, second_length, walk_written}
 use Rattle.parts.proofs.write_walk.Goals as goal
 use Rattle.parts.proofs.write_walk.Goals.{After-slice_known-3-1}
 
@@ -30,15 +29,8 @@ overflow_add-f c =
     let r = c.requires in
     omega (arith, low_few r, r.small)
 
-pub slice_bounds-copy_places-end-3 : goal.slice_bounds-copy_places-end-3
-slice_bounds-copy_places-end-3 c = sym (point_size_lem c.requires)
-
 pub copy_places-requires : goal.copy_places-requires
 copy_places-requires c = point_ready c.requires
-
-pub copy_places-requires-2 : goal.copy_places-requires-2
-copy_places-requires-2 c =
-    best_ready c.requires c.copy_places.new.to c.copy_places.ensures c.best_size.result c.best_size.ensures
 
 pub write_integers-requires : goal.write_integers-requires
 write_integers-requires c =

@@ -1,45 +1,44 @@
 -- `given_check` meets its contract: the table first, then the matrices, which are as large as it says. Assumes nothing.
-use mathlib.Core.Path.{◌≡◌, sym, ap, ◌∙◌}
-use mathlib.Core.List.{◌++◌}
+use mathlib.Core.Path.{sym, ◌∙◌}
+use mathlib.Core.List.{List, ◌++◌}
+use lib.ListN.{length}
 use native.Mathlib.Omega.{arith}
-use Rattle.definitions.specs.Table.{table, dimension, largest_dimension}
-use Rattle.definitions.specs.Checks.{first_refusal, table_checks}
+use Rattle.definitions.specs.Table.{table, largest_dimension}
+use Rattle.definitions.specs.Checks.{Verdict, table_checks}
 use Rattle.definitions.specs.Prepared.{matrix_checks}
 use Rattle.definitions.specs.Calls.{target_checks}
 use Rattle.definitions.proofs.Passed.{table_checked}
-use Rattle.refusals.specs.Numbers.{verdict}
-use Rattle.checks.proofs.Sequence.{refused, passed}
+use Rattle.checks.proofs.Sequence.{decided, refused, passed}
 use Rattle.prepared.proofs.given_check.Goals as goal
-use Rattle.prepared.proofs.given_check.Goals.{After-matrix_check-matrices}
+use Rattle.prepared.proofs.given_check.Goals.{Start}
 
-pub returns-in-Refuse : goal.returns-in-Refuse
-returns-in-Refuse c =
-    let a = c.args in
-    let t = table a.weights.now a.mu.now in
-    let v = c.table_check-table.result in
-    let matrices = matrix_checks (dimension t) a.transform.now a.inverse.now in
-    let told = c.in-Refuse.is in
-    refused v (table_checks largest_dimension t ++ matrices) (refused v (table_checks largest_dimension t) c.table_check-table.ensures told matrices) told (target_checks (dimension t) a.target.now a.out.now)
+-- the checks of the table, of the matrices and of the targets
+module _ (c : Start) where
+  abbrev tables : List Verdict
+  tables = table_checks largest_dimension (table c.args.weights.now c.args.mu.now)
 
-pub matrix_check-matrices-requires : goal.matrix_check-matrices-requires
-matrix_check-matrices-requires c =
-    let a = c.args in
-    omega (arith, (table_checked largest_dimension (table a.weights.now a.mu.now) (sym c.table_check-table.ensures ∙ ap verdict c.in_default.is)).small)
+  abbrev matrices : List Verdict
+  matrices = matrix_checks (length c.args.weights.now) c.args.transform.now c.args.inverse.now
 
--- the verdict on the table and the matrices
-both_checked : (c : After-matrix_check-matrices) →
-    let a = c.args in
-    let t = table a.weights.now a.mu.now in
-    verdict c.matrix_check-matrices.result ≡ first_refusal (table_checks largest_dimension t ++ matrix_checks (dimension t) a.transform.now a.inverse.now)
-both_checked c =
-    let a = c.args in
-    let t = table a.weights.now a.mu.now in
-    c.matrix_check-matrices.ensures ∙ passed c.table_check-table.result (table_checks largest_dimension t) c.table_check-table.ensures c.in_default.is (matrix_checks (dimension t) a.transform.now a.inverse.now)
+  abbrev targets : List Verdict
+  targets = target_checks (length c.args.weights.now) c.args.target.now c.args.out.now
 
-pub returns-in-Refuse-matrices : goal.returns-in-Refuse-matrices
-returns-in-Refuse-matrices c = let checked = (goal.at.returns-in-Refuse-matrices c).After-matrix_check-matrices in refused checked.matrix_check-matrices.result _ (both_checked checked) c.in-Refuse-matrices.is _
+pub returns-in_err-table_check : goal.returns-in_err-table_check
+returns-in_err-table_check c =
+    let s = (goal.at.returns-in_err-table_check c).Start in
+    refused (tables s ++ matrices s) _ _ c.from_residual.ensures (decided (tables s) _ c.in_err-table_check.ensures (matrices s)) (targets s)
+
+pub matrix_check-requires : goal.matrix_check-requires
+matrix_check-requires c =
+    let a = c.args in
+    omega (arith, (table_checked largest_dimension (table a.weights.now a.mu.now) (sym c.in_ok-table_check.ensures)).small)
+
+pub returns-in_err-matrix_check : goal.returns-in_err-matrix_check
+returns-in_err-matrix_check c =
+    let s = (goal.at.returns-in_err-matrix_check c).Start in
+    refused (tables s ++ matrices s) _ _ c.from_residual-in_err-matrix_check.ensures (c.in_err-matrix_check.ensures ∙ passed (tables s) c.in_ok-table_check.ensures (matrices s)) (targets s)
 
 pub returns : goal.returns
 returns c =
-    let checked = (goal.at.returns c).After-matrix_check-matrices in
-    c.target_output_check.ensures ∙ passed checked.matrix_check-matrices.result _ (both_checked checked) c.in_default-matrices.is _
+    let s = (goal.at.returns c).Start in
+    c.target_output_check.ensures ∙ passed (tables s ++ matrices s) (c.in_ok-matrix_check.ensures ∙ passed (tables s) c.in_ok-table_check.ensures (matrices s)) (targets s)

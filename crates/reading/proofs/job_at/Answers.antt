@@ -6,7 +6,7 @@ use lib.Dec.{T}
 use lib.ListN.{get_or}
 use lib.Ieee.{Float, binary64, nan, fits}
 use Rattle.definitions.specs.JobLayout.{items_at}
-use Rattle.reading.specs.View.{mu_at, target_at, radius_at, budget_at, settings_at, SettingsWithin}
+use Rattle.reading.specs.View.{mu_at, target_at, radius_at, budget_at, settings_at}
 use Rattle.reading.proofs.Items.{doubles_fit}
 use borrow.Author.Rules.{rules}
 use Rattle.reading.proofs.job_at.Goals as goal
@@ -34,8 +34,3 @@ returns c =
         doubles = λ i. subst (λ (xs : List Float). T (fits binary64 (get_or xs i nan))) (sym weights.vector_at-weights.ensures.first) (doubles_fit (items_at input 4 n) i);
       };
     }
-
-pub settings_at-settings-requires : goal.settings_at-settings-requires
-settings_at-settings-requires c =
-    let at : c.section_end-settings_section.result ≡ settings_at c.args.n = omega (arith, c.section_end-mu_section.ensures, c.triangle.ensures, c.section_end-target_section.ensures, c.section_end-radius_section.ensures, c.section_end-budget_section.ensures, c.section_end-settings_section.ensures) in
-    subst (SettingsWithin c.args.input.now) (sym at) c.requires.settings

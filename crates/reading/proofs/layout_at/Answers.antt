@@ -1,41 +1,47 @@
 -- `layout_at` meets its contract: the sections one after another are the layout. Assumes nothing.
-use mathlib.Core.Path.{◌≡◌, ap, sym, subst, ◌∙◌}
-use Prim.Native.Nat.{ℕ}
-use Rattle.definitions.specs.JobLayout as D
-use Rattle.reading.specs.declared.Section.{Section}
-use Rattle.reading.specs.declared.Section.TheVariants.{Items}
-use Rattle.reading.specs.declared.Layout.{Layout}
-use Rattle.reading.specs.View.{EndsWithin, next_section, next_settings, layout_by_last, LayoutIs}
-use Rattle.reading.proofs.Layouts.{layout_from, layout_good, Few, weights_few}
+use Rattle.reading.proofs.Layouts.{handed_up, weights_read, size_few, mu_read, target_read, radius_read, budget_read, settings_read, left_over, nothing_left}
 use Rattle.reading.proofs.layout_at.Goals as goal
 
-pub returns-in-Fault : goal.returns-in-Fault
-returns-in-Fault c =
-    let input = c.args.input.now in
-    subst (λ (s : Section). LayoutIs input (D.job_of input) (layout_from input s)) (sym c.section_at-weights.ensures.means ∙ c.in-Fault.is) (layout_good input)
+pub returns-in_err-weights : goal.returns-in_err-weights
+returns-in_err-weights c =
+    handed_up _ c.from_residual.result c.from_residual.ensures.1 (weights_read _ c.section_at.ensures.means c.in_err-weights.was)
 
 pub triangle-requires : goal.triangle-requires
-triangle-requires c =
-    let read = c.section_at-weights in
-    subst Few (sym read.ensures.means ∙ c.in-Items.is) (weights_few c.args.input.now)
+triangle-requires c = size_few _ c.section_at.ensures.means c.in_ok-weights.was
 
-pub next_section-mu-requires : goal.next_section-mu-requires
-next_section-mu-requires c =
-    subst (EndsWithin c.args.input.now) c.in-Items.is c.section_at-weights.ensures.ends
+pub returns-in_err-mu : goal.returns-in_err-mu
+returns-in_err-mu c =
+    handed_up _ c.from_residual-in_err-mu.result c.from_residual-in_err-mu.ensures.1
+    (mu_read _ c.section_at.ensures.means c.in_ok-weights.was c.triangle.ensures c.next_section.ensures.means c.in_err-mu.was)
 
-pub returns-in-Items : goal.returns-in-Items
-returns-in-Items c =
-    let input = c.args.input.now in
-    let n = c.in-Items.n in
-    let end = c.in-Items.field-1 in
-    let e1 : ◌≡◌ {A = Section} c.next_section-mu.result (next_section input c.triangle.result (Items n end)) = c.next_section-mu.ensures.means in
-    let e2 : ◌≡◌ {A = Section} c.next_section-target.result (next_section input n c.next_section-mu.result) = c.next_section-target.ensures.means in
-    let e3 : ◌≡◌ {A = Section} c.next_section-radius.result (next_section input 1 c.next_section-target.result) = c.next_section-radius.ensures.means in
-    let e4 : ◌≡◌ {A = Section} c.next_section-budget.result (next_section input 1 c.next_section-radius.result) = c.next_section-budget.ensures.means in
-    let e5 : ◌≡◌ {A = Section} c.next_settings-settings.result (next_settings input c.next_section-budget.result) = c.next_settings-settings.ensures.means in
-    let mu = e1 ∙ ap (λ (k : ℕ). next_section input k (Items n end)) c.triangle.ensures in
-    let chain : ◌≡◌ {A = Layout} c.layout_by_last.result (layout_from input (Items n end)) =
-    c.layout_by_last.ensures ∙ ap (layout_by_last input n) (e5 ∙ ap (next_settings input) (e4 ∙ ap (next_section input 1) (e3 ∙ ap (next_section input 1) (e2 ∙ ap (next_section input n) mu))))
-    in
-    subst (LayoutIs input (D.job_of input)) (sym chain)
-    (subst (λ (s : Section). LayoutIs input (D.job_of input) (layout_from input s)) (sym c.section_at-weights.ensures.means ∙ c.in-Items.is) (layout_good input))
+pub returns-in_err-target : goal.returns-in_err-target
+returns-in_err-target c =
+    handed_up _ c.from_residual-in_err-target.result c.from_residual-in_err-target.ensures.1
+    (target_read _ c.section_at.ensures.means c.in_ok-weights.was c.triangle.ensures c.next_section.ensures.means c.in_ok-mu.was c.next_section-2.ensures.means c.in_err-target.was)
+
+pub returns-in_err-radius : goal.returns-in_err-radius
+returns-in_err-radius c =
+    handed_up _ c.from_residual-in_err-radius.result c.from_residual-in_err-radius.ensures.1
+    (radius_read _ c.section_at.ensures.means c.in_ok-weights.was c.triangle.ensures c.next_section.ensures.means c.in_ok-mu.was c.next_section-2.ensures.means c.in_ok-target.was c.next_section-3.ensures.means c.in_err-radius.was)
+
+pub returns-in_err-budget : goal.returns-in_err-budget
+returns-in_err-budget c =
+    handed_up _ c.from_residual-in_err-budget.result c.from_residual-in_err-budget.ensures.1
+    (budget_read _ c.section_at.ensures.means c.in_ok-weights.was c.triangle.ensures c.next_section.ensures.means c.in_ok-mu.was c.next_section-2.ensures.means c.in_ok-target.was c.next_section-3.ensures.means c.in_ok-radius.was c.next_section-4.ensures.means c.in_err-budget.was)
+
+pub returns-in_err-settings : goal.returns-in_err-settings
+returns-in_err-settings c =
+    handed_up _ c.from_residual-in_err-settings.result c.from_residual-in_err-settings.ensures.1
+    (settings_read _ c.section_at.ensures.means c.in_ok-weights.was c.triangle.ensures c.next_section.ensures.means c.in_ok-mu.was c.next_section-2.ensures.means c.in_ok-target.was c.next_section-3.ensures.means c.in_ok-radius.was c.next_section-4.ensures.means c.in_ok-budget.was c.next_settings.ensures.means c.in_err-settings.was)
+
+pub returns-then-settings-input : goal.returns-then-settings-input
+returns-then-settings-input c =
+    left_over _ _ c.in_ok-settings.settings
+    (settings_read _ c.section_at.ensures.means c.in_ok-weights.was c.triangle.ensures c.next_section.ensures.means c.in_ok-mu.was c.next_section-2.ensures.means c.in_ok-target.was c.next_section-3.ensures.means c.in_ok-radius.was c.next_section-4.ensures.means c.in_ok-budget.was c.next_settings.ensures.means c.in_ok-settings.was)
+    c.if-settings-input.true
+
+pub returns : goal.returns
+returns c =
+    nothing_left _ _ c.in_ok-settings.settings
+    (settings_read _ c.section_at.ensures.means c.in_ok-weights.was c.triangle.ensures c.next_section.ensures.means c.in_ok-mu.was c.next_section-2.ensures.means c.in_ok-target.was c.next_section-3.ensures.means c.in_ok-radius.was c.next_section-4.ensures.means c.in_ok-budget.was c.next_settings.ensures.means c.in_ok-settings.was)
+    c.if-settings-input.false

@@ -1,5 +1,5 @@
 -- `number_at`: the bytes passed, from the last, are a number. Assumes nothing.
-use mathlib.Core.Path.{◌≡◌, ap, sym, ◌∙◌}
+use mathlib.Core.Path.{◌≡◌, ap, sym}
 use Prim.Native.Nat.{ℕ, suc, ◌+◌, ◌-◌, ◌*◌, ◌^◌}
 use native.Mathlib.Omega.{arith}
 use lib.ListN.{get_or}
@@ -17,11 +17,6 @@ overflow_mul-value c =
     let l = c.loop-left in
     let small = few_bytes l.value (c.args.size - l.left) (omega arith) l.invariant.bound in
     omega (arith, small)
-
-pub overflow_cast-value : goal.overflow_cast-value
-overflow_cast-value c =
-    let byte = (c.shared_slice_known-1.given (c.args.offset + (c.loop-left.left - 1))).fits in
-    omega (arith, byte)
 
 pub overflow_add-value-in-loop-left : goal.overflow_add-value-in-loop-left
 overflow_add-value-in-loop-left c =
@@ -42,12 +37,3 @@ loop-left-preserved c =
     let first = number_more a.input.now o k (omega arith) in
     let value : number_at a.input.now o (a.size - (l.left - 1)) ≡ get_or a.input.now o 0 + 256 * l.value = cc (more, first, next, l.invariant.value-so-far) in
     record { count = omega arith; value-so-far = omega (arith, value); bound = omega (arith, more_bound l.value (get_or a.input.now o 0) k l.invariant.bound byte, ap (λ (j : ℕ). 2 ^ (8 * j)) more) }
-
-pub returns : goal.returns
-returns c =
-    let l = c.loop-left in
-    let a = c.args in
-    let done : l.left ≡ 0 = omega arith in
-    let all : a.size - l.left ≡ a.size = omega arith in
-    let value = l.invariant.value-so-far ∙ ap (λ (j : ℕ). number_at a.input.now j (a.size - l.left)) (omega arith) ∙ ap (number_at a.input.now a.offset) all in
-    record { value = value; bound = omega (arith, l.invariant.bound, ap (λ (j : ℕ). 2 ^ (8 * j)) all) }

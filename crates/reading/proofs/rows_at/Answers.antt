@@ -6,23 +6,17 @@ use native.Mathlib.Omega.{arith}
 use native.Mathlib.Numerals.{add-one}
 use native.Mathlib.Nat.{add-zero, mul-le-mul_right, suc-mul}
 use borrow.Rule.Slice.PartMut.{put_mid}
-use lib.ListN.{length, take, drop, length-drop, length-replicate}
+use lib.ListN.{length, take, drop, length-drop}
 use lib.Seq.{length-take-le}
 use lib.Ieee.{Float}
-use Rattle.definitions.specs.Table.{plus_zero, largest_dimension}
 use Rattle.definitions.specs.JobLayout.{triangle}
-use Rattle.reading.proofs.Arrays.{square_fits}
 use Rattle.definitions.proofs.Triangles.{triangle_suc}
-use Rattle.reading.proofs.Rows.{triangle_more, part, rows_over_zeros, length_over_zeros, next_row, no_rows, all_rows, entries, enough}
+use Rattle.reading.proofs.Rows.{triangle_more, part, rows_over_zeros, length_over_zeros, next_row, no_rows, entries, enough}
 use Rattle.reading.proofs.rows_at.Goals as goal
 
 -- a row's places lie within mu
 row_fits : (j n : ℕ) → j < n → j * n + j ≤ n * n
 row_fits j n h = let m = mul-le-mul_right n h in let s = suc-mul j n in omega (arith, m, s, h)
-
--- and are few
-row_small : (j n : ℕ) → j < n → n ≤ largest_dimension → j * n + j ≤ largest_dimension * largest_dimension
-row_small j n h small = let f = row_fits j n h in let few = square_fits n small in omega arith
 
 -- a row's entries lie within those given
 row_given : (j n : ℕ) → j < n → triangle j + j ≤ triangle n
@@ -50,25 +44,6 @@ loop-j-init c =
       size = ap length zeros ∙ length_over_zeros a.n (entries a.input.now a.section a.n) (enough a.input.now a.section a.n) 0 (omega arith);
     }
 
-pub slice_bounds-doubles_at-end : goal.slice_bounds-doubles_at-end
-slice_bounds-doubles_at-end c =
-    let l = c.loop-j in
-    let f = row_fits l.j c.args.n c.loop-j-test.true in
-    let whole = l.invariant.size in
-    omega (arith, f, whole)
-
-pub doubles_at-requires : goal.doubles_at-requires
-doubles_at-requires c =
-    let l = c.loop-j in
-    let n = c.args.n in
-    let k = l.j * n + l.j - l.j * n in
-    let same : k ≡ l.j = omega arith in
-    let size = lent l.j n k l.mu c.loop-j-test.true l.invariant.size same in
-    let given = row_given l.j n c.loop-j-test.true in
-    let here = l.invariant.offset in
-    let all = c.requires.items.fits in
-    omega (arith, size, given, here, all)
-
 pub loop-j-preserved : goal.loop-j-preserved
 loop-j-preserved c =
     let l = c.loop-j in
@@ -92,33 +67,3 @@ loop-j-preserved c =
       rows-so-far = next;
       size = ap length next ∙ length_over_zeros n es (enough input section n) (l.j + 1) (omega (arith, less));
     }
-
-pub shape_of-mu : goal.shape_of-mu
-shape_of-mu c =
-    c.loop-j.invariant.size ∙ sym (ap length c.requires.zeros ∙ length-replicate (c.args.n * c.args.n) plus_zero)
-
-pub returns : goal.returns
-returns c =
-    let l = c.loop-j in
-    let input = c.args.input.now in
-    let n = c.args.n in
-    let es = entries input c.args.section n in
-    let more = c.loop-j-test.false in
-    let most = l.invariant.count in
-    let all : l.j ≡ n = omega (arith, more, most) in
-    l.invariant.rows-so-far ∙ ap (rows_over_zeros n es (enough input c.args.section n)) all ∙ all_rows n es (enough input c.args.section n)
-
-pub overflow_mul-start : goal.overflow_mul-start
-overflow_mul-start c = let small = row_small _ _ c.loop-j-test.true c.requires.items.small in record { fits = omega arith }
-
-pub overflow_add-end : goal.overflow_add-end
-overflow_add-end c = let small = row_small _ _ c.loop-j-test.true c.requires.items.small in record { fits = omega arith }
-
-pub offset_bounds-mu-start : goal.offset_bounds-mu-start
-offset_bounds-mu-start c = let small = row_small _ _ c.loop-j-test.true c.requires.items.small in record { fits = omega arith }
-
-pub overflow_mul-at : goal.overflow_mul-at
-overflow_mul-at c = let given = row_given _ _ c.loop-j-test.true in record { fits = omega (arith, given, c.loop-j.invariant.offset, c.requires.items.fits, c.well_formed) }
-
-pub overflow_add-at-in-loop-j : goal.overflow_add-at-in-loop-j
-overflow_add-at-in-loop-j c = let given = row_given _ _ c.loop-j-test.true in record { fits = omega (arith, given, c.loop-j.invariant.offset, c.requires.items.fits, c.well_formed) }

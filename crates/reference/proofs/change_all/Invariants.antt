@@ -1,11 +1,9 @@
 -- `change_all` meets its contract: the coordinates passed are changed, the others as they were. Assumes nothing.
-use Prim.Native.Nat.{◌-◌}
-use lib.ListN.{length}
-use Rattle.reference.proofs.Changes.{Changing}
+use mathlib.Core.Path.{◌≡◌}
+use Prim.Native.Nat.{ℕ, ◌<◌, ◌≤◌}
+use Rattle.definitions.specs.Reference.{cycles, changed}
 use Rattle.reference.proofs.change_all.Given as goal
 
 abbrev pub invariant-loop-i : goal.invariant-loop-i
-invariant-loop-i l = Changing l.initial.point l.r l.point l.i
-
-abbrev pub decreases-loop-i : goal.decreases-loop-i
-decreases-loop-i l = length l.initial.point - l.i
+invariant-loop-i l =
+    ((k : ℕ) → k < l.i → cycles l.point k ≡ changed l.initial.point l.r k) × ((k : ℕ) → l.i ≤ k → cycles l.point k ≡ cycles l.initial.point k)

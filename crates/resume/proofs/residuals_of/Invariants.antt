@@ -1,13 +1,15 @@
--- `residuals_of` writes the residuals downward: the invariant has them from `depth` up. Assumes nothing.
+-- `residuals_of` writes the residuals: the invariant has those below `level`. Assumes nothing.
 use mathlib.Core.Path.{◌≡◌}
-use Prim.Native.Nat.{◌≤◌}
-use lib.ListN.{length}
-use Rattle.definitions.specs.Table.{largest_dimension}
-use Rattle.resume.specs.Ready.{Beside}
+use Prim.Native.Nat.{ℕ, ◌<◌}
+use lib.IntN.{pos}
+use lib.Ieee.{nan, binary64, sub}
+use lib.ListN.{length, get_or}
+use Rattle.rounding.specs.Integers.{to_double}
+use Rattle.definitions.specs.Table.{coordinate, largest_dimension}
 use Rattle.resume.proofs.residuals_of.Given as goal
 
-abbrev pub invariant-loop-depth : goal.invariant-loop-depth
-invariant-loop-depth l = (l.depth ≤ length l.target) × (length l.rest ≡ largest_dimension) × Beside (length l.target) l.target l.rest l.point l.depth
-
-abbrev pub decreases-loop-depth : goal.decreases-loop-depth
-decreases-loop-depth l = l.depth
+abbrev pub invariant-loop-level : goal.invariant-loop-level
+invariant-loop-level l = record {
+  long : length l.rest ≡ largest_dimension;
+  written : (k : ℕ) → k < l.level → get_or l.rest k nan ≡ sub binary64 (coordinate l.target k) (to_double (get_or l.point k (pos 0)));
+}

@@ -38,8 +38,8 @@ given m =
       term_is = m.term.ensures;
       generator = m.generator.result;
       generator_is = m.generator.ensures;
-      next = m.next_kept-following.result;
-      next_is = m.next_kept-following.ensures;
+      next = m.next-following.result;
+      next_is = m.next-following.ensures;
       level = m.waiting.result;
       level_is = m.waiting.ensures;
       count = m.one_more.result;
@@ -106,9 +106,9 @@ bounds-rest-level c =
     let u = turn (goal.at.bounds-rest-level c).Else-s-eq0 in
     level_small u
 
-pub next_kept-following-requires : goal.next_kept-following-requires
-next_kept-following-requires c =
-    let u = turn (goal.at.next_kept-following-requires c).Else-s-eq0 in
+pub next-following-requires : goal.next-following-requires
+next-following-requires c =
+    let u = turn (goal.at.next-following-requires c).Else-s-eq0 in
     omega (arith, ap (λ (g : Children). g.step) c.generator.ensures, steps_few u)
 
 -- the place of the lowest level, where that is stored again

@@ -9,6 +9,6 @@ use Rattle.resume.proofs.waiting.Goals as goal
 pub returns : goal.returns
 returns c =
     let a = c.args in
-    let x : SFits w64 c.in-At.g.nearest = record { sfits = c.struct_told-1.given.1.1.1.0.1 } in
-    let y : SFits w64 c.in-At.trial.z = record { sfits = c.struct_told-2-1.given.0.1 } in
-    rw (to_z-of_z w64 _ x, to_z-of_z w64 _ y) (ap (waiting_of a.level a.partial a.other) (sym c.in-At.is))
+    let x : SFits w64 c.in-Some.g.nearest = record { sfits = c.struct_told-1.given.1.1.1.0.1 } in
+    let y : SFits w64 c.in-Some.trial.z = record { sfits = c.struct_told-2-1.given.0.1 } in
+    rw (to_z-of_z w64 _ x, to_z-of_z w64 _ y) (ap (waiting_of a.level a.partial a.other) (sym c.in-Some.is))

@@ -1,4 +1,5 @@
 -- `run` walks as the definition does. Each exit and each turn is a law of `States` or `Loop`, at what is known where it stands. Assumes nothing.
+use Rattle.std.proofs.Common.{Some}
 use mathlib.Core.Path.{◌≡◌, sym, ◌∙◌, subst}
 use Prim.Native.Nat.{ℕ, ◌<◌, ◌+◌, ◌-◌}
 use native.Mathlib.Omega.{arith}
@@ -7,7 +8,6 @@ use mir.ValLaws.{to_z-of_z}
 use lib.IntN.{ℤ}
 use Rattle.children.specs.declared.Children.{Children}
 use Rattle.children.specs.declared.Trial.{Trial}
-use Rattle.children.specs.declared.Level.TheVariants.{Open}
 use Rattle.children.specs.View.{level_of}
 use Rattle.search.specs.View.{carried}
 use Rattle.running.specs.Centers.{Updated}
@@ -15,7 +15,7 @@ use Rattle.running.specs.Call.{search_of, State, state, Call, call_of, Ready}
 use Rattle.running.proofs.States.{unchanged, foot_pushed, foot_considered}
 use Rattle.running.proofs.Loop.{ChildReady, Level, start_of, center_read, level_closed, none_given, level_open, Turn, children_end, preserved_exhausted, Tried, step_after, budget_spent, Counted, child_pruned, ready_below, Below, exhausted_below, preserved_below, loop_continues, last_child}
 use Rattle.running.proofs.+run.Goals as goal
-use Rattle.running.proofs.+run.Goals.{Start, After-next_large-following}
+use Rattle.running.proofs.+run.Goals.{Start, After-next-following}
 
 -- ---- a call above the foot; at an open level; in the loop
 module _ (q : Call) (ready : Ready q) where
@@ -26,7 +26,7 @@ module _ (q : Call) (ready : Ready q) where
     abbrev level : Level q
     level = record { ready = ready; level = q.depth - 1; depth_is = depth_is }
 
-    module _ (generator : Children) (made : Open generator ≡ level_of (start_of level (center_read level))) where
+    module _ (generator : Children) (made : Some generator ≡ level_of (start_of level (center_read level))) where
       abbrev opened : Turn q
       opened = record { at = level; now = q.from; generator = generator; loop = level_open level generator made }
 
@@ -41,7 +41,7 @@ module _ (t : ℕ) where
   call b = let a = b.args in call_of a.mu a.weights a.point a.best a.centers a.distances a.points a.found a.exhausted a.listing a.budget a.depth a.partial a.s
 
   -- in the loop, with the centres updated and the next child known
-  module _ (k : After-next_large-following t) where
+  module _ (k : After-next-following t) where
     abbrev call_at : Call
     call_at = let a = k.args in call_of a.mu a.weights a.point a.best a.centers a.distances a.points a.found a.exhausted a.listing a.budget a.depth a.partial a.s
 
@@ -76,22 +76,22 @@ returns-then-depth-eq0 t c =
 pub returns-in_default : goal.returns-in_default
 returns-in_default t c =
     let b = (goal.at.returns-in_default t c).Start in
-    record { seen_as = level_closed (level (call t b) c.requires (omega (arith, c.if-depth-eq0.false))) (sym c.in_default.is ∙ c.new_large.ensures); preserved = unchanged (call t b) c.requires }
+    record { seen_as = level_closed (level (call t b) c.requires (omega (arith, c.if-depth-eq0.false))) (sym c.in_default.is ∙ c.new.ensures); preserved = unchanged (call t b) c.requires }
 
 pub first-requires : goal.first-requires
 first-requires t c =
     let b = (goal.at.first-requires t c).Start in
-    none_given (level (call t b) c.requires (omega (arith, c.if-depth-eq0.false))) c.in-Open.made (sym c.in-Open.is ∙ c.new_large.ensures)
+    none_given (level (call t b) c.requires (omega (arith, c.if-depth-eq0.false))) c.in-Some.made (sym c.in-Some.is ∙ c.new.ensures)
 
 pub returns-in_default-first : goal.returns-in_default-first
 returns-in_default-first t c =
     let b = (goal.at.returns-in_default-first t c).Start in
-    record { seen_as = children_end (opened (call t b) c.requires (omega (arith, c.if-depth-eq0.false)) c.in-Open.made (sym c.in-Open.is ∙ c.new_large.ensures)) (sym c.in_default-first.is ∙ c.first.ensures); preserved = unchanged (call t b) c.requires }
+    record { seen_as = children_end (opened (call t b) c.requires (omega (arith, c.if-depth-eq0.false)) c.in-Some.made (sym c.in-Some.is ∙ c.new.ensures)) (sym c.in_default-first.is ∙ c.first.ensures); preserved = unchanged (call t b) c.requires }
 
 pub loop-s-init : goal.loop-s-init
 loop-s-init t c =
     let b = (goal.at.loop-s-init t c).Start in
-    record { generator = c.in-Open.made; loop = (opened (call t b) c.requires (omega (arith, c.if-depth-eq0.false)) c.in-Open.made (sym c.in-Open.is ∙ c.new_large.ensures)).loop; gives = sym c.in-At.is ∙ c.first.ensures }
+    record { generator = c.in-Some.made; loop = (opened (call t b) c.requires (omega (arith, c.if-depth-eq0.false)) c.in-Some.made (sym c.in-Some.is ∙ c.new.ensures)).loop; gives = sym c.in-Some-first.is ∙ c.first.ensures }
 
 pub returns-then-s-budget : goal.returns-then-s-budget
 returns-then-s-budget t c =
@@ -99,21 +99,21 @@ returns-then-s-budget t c =
     let d = tried (call t b) c.requires (omega (arith, c.if-depth-eq0.false)) c.loop-s.invariant in
     record { seen_as = budget_spent d c.if-s-budget.true; preserved = preserved_exhausted d.turn }
 
-pub next_large-following-requires : goal.next_large-following-requires
-next_large-following-requires t c =
-    let b = (goal.at.next_large-following-requires t c).Start in
+pub next-following-requires : goal.next-following-requires
+next-following-requires t c =
+    let b = (goal.at.next-following-requires t c).Start in
     let d = tried (call t b) c.requires (omega (arith, c.if-depth-eq0.false)) c.loop-s.invariant in
     omega (arith, step_after d, c.if-s-budget.false, c.requires.bounded)
 
 pub run-requires : goal.run-requires
 run-requires t c =
-    let k = (goal.at.run-requires t c).After-next_large-following in
+    let k = (goal.at.run-requires t c).After-next-following in
     let fewer : c.args.depth - 1 < t = omega (arith, c.decreases, c.if-depth-eq0.false) in
     (fewer, ready_below (child t k))
 
 pub returns-in_default-following : goal.returns-in_default-following
 returns-in_default-following t c =
-    let k = (goal.at.returns-in_default-following t c).After-next_large-following in
+    let k = (goal.at.returns-in_default-following t c).After-next-following in
     let v = c.run in
     let m : Below (call_at t k) = record {
       child = child t k;
@@ -121,17 +121,17 @@ returns-in_default-following t c =
       result = state (carried c.args.listing (search_of v.new.point v.new.best v.result) v.new.found v.new.exhausted) v.new.centers v.new.distances v.new.points;
       returned = v.ensures;
     } in
-    record { seen_as = last_child m (sym c.in_default-following.is ∙ c.next_large-following.ensures); preserved = preserved_below m }
+    record { seen_as = last_child m (sym c.in_default-following.is ∙ c.next-following.ensures); preserved = preserved_below m }
 
 pub run-s-requires : goal.run-s-requires
 run-s-requires t c =
-    let k = (goal.at.run-s-requires t c).After-next_large-following in
+    let k = (goal.at.run-s-requires t c).After-next-following in
     let fewer : c.args.depth - 1 < t = omega (arith, c.decreases, c.if-depth-eq0.false) in
     (fewer, ready_below (child t k))
 
 pub returns-then-exhausted : goal.returns-then-exhausted
 returns-then-exhausted t c =
-    let k = (goal.at.returns-then-exhausted t c).After-next_large-following in
+    let k = (goal.at.returns-then-exhausted t c).After-next-following in
     let v = c.run-s in
     let m : Below (call_at t k) = record {
       child = child t k;
@@ -143,7 +143,7 @@ returns-then-exhausted t c =
 
 pub loop-s-preserved-then-sum-s : goal.loop-s-preserved-then-sum-s
 loop-s-preserved-then-sum-s t c =
-    let k = (goal.at.loop-s-preserved-then-sum-s t c).After-next_large-following in
+    let k = (goal.at.loop-s-preserved-then-sum-s t c).After-next-following in
     let v = c.run-s in
     let m : Below (call_at t k) = record {
       child = child t k;
@@ -151,15 +151,15 @@ loop-s-preserved-then-sum-s t c =
       result = state (carried c.args.listing (search_of v.new.point v.new.best v.result) v.new.found v.new.exhausted) v.new.centers v.new.distances v.new.points;
       returned = v.ensures;
     } in
-    record { generator = (child t k).tried.after; loop = loop_continues m c.if-exhausted.false; gives = sym c.in-At-following.is ∙ c.next_large-following.ensures }
+    record { generator = (child t k).tried.after; loop = loop_continues m c.if-exhausted.false; gives = sym c.in-Some-following.is ∙ c.next-following.ensures }
 
 pub returns-in_default-following-2 : goal.returns-in_default-following-2
 returns-in_default-following-2 t c =
-    let k = (goal.at.returns-in_default-following-2 t c).After-next_large-following in
+    let k = (goal.at.returns-in_default-following-2 t c).After-next-following in
     let loop = child_pruned (child t k) c.if-sum-s.false in
-    record { seen_as = children_end (record { at = (child t k).tried.turn.at; now = _; generator = _; loop = loop }) (sym c.in_default-following-2.is ∙ c.next_large-following.ensures); preserved = loop.preserved }
+    record { seen_as = children_end (record { at = (child t k).tried.turn.at; now = _; generator = _; loop = loop }) (sym c.in_default-following-2.is ∙ c.next-following.ensures); preserved = loop.preserved }
 
 pub loop-s-preserved : goal.loop-s-preserved
 loop-s-preserved t c =
-    let k = (goal.at.loop-s-preserved t c).After-next_large-following in
-    record { generator = (child t k).tried.after; loop = child_pruned (child t k) c.if-sum-s.false; gives = sym c.in-At-following-2.is ∙ c.next_large-following.ensures }
+    let k = (goal.at.loop-s-preserved t c).After-next-following in
+    record { generator = (child t k).tried.after; loop = child_pruned (child t k) c.if-sum-s.false; gives = sym c.in-Some-following-2.is ∙ c.next-following.ensures }

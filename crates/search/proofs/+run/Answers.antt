@@ -1,4 +1,5 @@
 -- `run` walks as the definition does. Each exit and each turn is a law of `States` or `Loop`, at what is known where it stands. Assumes nothing.
+use Rattle.std.proofs.Common.{Some}
 use mathlib.Core.Path.{◌≡◌, sym, ◌∙◌}
 use Prim.Native.Nat.{ℕ, ◌<◌, ◌+◌, ◌-◌}
 use native.Mathlib.Omega.{arith}
@@ -10,14 +11,13 @@ use Rattle.lists.proofs.Tuples.{thirteenth}
 use Rattle.definitions.specs.Table.{largest_dimension}
 use Rattle.children.specs.declared.Children.{Children}
 use Rattle.children.specs.declared.Trial.{Trial}
-use Rattle.children.specs.declared.Level.TheVariants.{Open}
 use Rattle.children.specs.View.{level_of}
 use Rattle.search.specs.View.{carried}
 use Rattle.search.specs.Call.{State, state, Call, call_of, Ready}
 use Rattle.search.proofs.States.{unchanged, foot_pushed, foot_considered}
 use Rattle.search.proofs.Loop.{ChildReady, Level, start_of, center_sum_lem, level_closed, none_given, level_open, Turn, children_end, preserved_exhausted, Tried, step_after, budget_spent, Counted, child_pruned, ready_below, Below, exhausted_below, preserved_below, loop_continues, last_child}
 use Rattle.search.proofs.+run.Goals as goal
-use Rattle.search.proofs.+run.Goals.{Start, Else-depth-eq0, In-Open, At-loop-s, After-struct_told-1, After-next-following}
+use Rattle.search.proofs.+run.Goals.{Start, Else-depth-eq0, In-Some, At-loop-s, After-struct_told-1, After-next-following}
 
 -- ---- a call above the foot; at an open level; in the loop; with the child set; back from the walk below it
 module _ (q : Call) (ready : Ready q) where
@@ -31,7 +31,7 @@ module _ (q : Call) (ready : Ready q) where
     low : q.depth - 1 < length q.table.weights
     low = omega (arith, depth_is, ready.within)
 
-    module _ (generator : Children) (made : Open generator ≡ level_of (start_of level (center_sum_lem level))) (long : length q.from.search.point ≡ largest_dimension) where
+    module _ (generator : Children) (made : Some generator ≡ level_of (start_of level (center_sum_lem level))) (long : length q.from.search.point ≡ largest_dimension) where
       abbrev opened : Turn q
       opened = record { at = level; now = q.from; generator = generator; loop = level_open level generator made long }
 
@@ -84,17 +84,17 @@ returns-in_default t c =
 pub first-requires : goal.first-requires
 first-requires t c =
     let b = (goal.at.first-requires t c).Start in
-    none_given (level (call t b) c.requires (omega (arith, c.if-depth-eq0.false))) c.in-Open.made (sym c.in-Open.is ∙ c.enter.ensures)
+    none_given (level (call t b) c.requires (omega (arith, c.if-depth-eq0.false))) c.in-Some.made (sym c.in-Some.is ∙ c.enter.ensures)
 
 pub returns-in_default-first : goal.returns-in_default-first
 returns-in_default-first t c =
     let b = (goal.at.returns-in_default-first t c).Start in
-    record { seen_as = children_end (opened (call t b) c.requires (omega (arith, c.if-depth-eq0.false)) c.in-Open.made (sym c.in-Open.is ∙ c.enter.ensures) (point_length t b)) (sym c.in_default-first.is ∙ c.first.ensures); preserved = unchanged (call t b) c.requires }
+    record { seen_as = children_end (opened (call t b) c.requires (omega (arith, c.if-depth-eq0.false)) c.in-Some.made (sym c.in-Some.is ∙ c.enter.ensures) (point_length t b)) (sym c.in_default-first.is ∙ c.first.ensures); preserved = unchanged (call t b) c.requires }
 
 pub loop-s-init : goal.loop-s-init
 loop-s-init t c =
     let b = (goal.at.loop-s-init t c).Start in
-    record { generator = c.in-Open.made; loop = (opened (call t b) c.requires (omega (arith, c.if-depth-eq0.false)) c.in-Open.made (sym c.in-Open.is ∙ c.enter.ensures) (point_length t b)).loop; gives = sym c.in-At.is ∙ c.first.ensures }
+    record { generator = c.in-Some.made; loop = (opened (call t b) c.requires (omega (arith, c.if-depth-eq0.false)) c.in-Some.made (sym c.in-Some.is ∙ c.enter.ensures) (point_length t b)).loop; gives = sym c.in-Some-first.is ∙ c.first.ensures }
 
 pub returns-then-s-budget : goal.returns-then-s-budget
 returns-then-s-budget t c =
@@ -157,7 +157,7 @@ loop-s-preserved-then-sum-s t c =
       returned = v.ensures;
       point_length = v.type_inv.1.1.0.1.0.1;
     } in
-    record { generator = (child t k).tried.after; loop = loop_continues m c.if-exhausted.false; gives = sym c.in-At-following.is ∙ c.next-following.ensures }
+    record { generator = (child t k).tried.after; loop = loop_continues m c.if-exhausted.false; gives = sym c.in-Some-following.is ∙ c.next-following.ensures }
 
 pub returns-in_default-following-2 : goal.returns-in_default-following-2
 returns-in_default-following-2 t c =
@@ -168,4 +168,4 @@ returns-in_default-following-2 t c =
 pub loop-s-preserved : goal.loop-s-preserved
 loop-s-preserved t c =
     let k = (goal.at.loop-s-preserved t c).After-next-following in
-    record { generator = (child t k).tried.after; loop = child_pruned (child t k) c.if-sum-s.false; gives = sym c.in-At-following-2.is ∙ c.next-following.ensures }
+    record { generator = (child t k).tried.after; loop = child_pruned (child t k) c.if-sum-s.false; gives = sym c.in-Some-following-2.is ∙ c.next-following.ensures }

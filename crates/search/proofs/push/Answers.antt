@@ -27,12 +27,12 @@ overflow_add-end c = omega (arith, room c)
 pub offset_bounds-points-start : goal.offset_bounds-points-start
 offset_bounds-points-start c = omega (arith, room c)
 
-pub slice_bounds-copy_i64-end : goal.slice_bounds-copy_i64-end
-slice_bounds-copy_i64-end c = omega (arith, room c)
+pub slice_bounds-copy-end : goal.slice_bounds-copy-end
+slice_bounds-copy-end c = omega (arith, room c)
 
 pub returns : goal.returns
 returns c =
     let m = (goal.at.returns c).Else-at-distances in
     let a = c.args in
     push_stored a.n a.point.now a.distance a.found.now a.distances.now a.points.now (omega arith) c.requires.points_length c.requires.point_fits _
-    (copied_part a.points.now a.point.now (a.found.now * a.n) a.n c.copy_i64.new.to (room m) c.requires.point_fits c.copy_i64.ensures)
+    (copied_part a.points.now a.point.now (a.found.now * a.n) a.n c.copy.new.to (room m) c.requires.point_fits c.copy.ensures)

@@ -15,7 +15,7 @@ pub returns : goal.returns
 returns c =
     let a = c.args in
     let t = table a.weights.now a.mu.now in
-    let whole = c.copy_f64.ensures ∙ take_all (length a.coefficients.now) a.target.now (omega (arith, c.requires.shape.shape.target_length, c.requires.coefficients_length)) in
+    let whole = c.copy.ensures ∙ take_all (length a.coefficients.now) a.target.now (omega (arith, c.requires.shape.shape.target_length, c.requires.coefficients_length)) in
     c.total.ensures
     ∙ ap (distance t a.target.now) (c.plane_levels.ensures.point ∙ ap (λ (xs : List Float). (nearest_plane t xs).point) whole)
     ∙ sym (ml_radius_is_lem t a.target.now)

@@ -21,7 +21,7 @@ returns c =
     let t = table a.weights.now a.mu.now in
     let answer = C.list t a.target.now a.distances.now a.points.now a.radius a.budget in
     let answered = c.list-answer.ensures in
-    let doubles = doubles_in t a.target.now c.shared_slice_known-1.given c.shared_slice_known-2-1.given c.shared_slice_known-3-1.given in
+    let doubles = doubles_in t a.target.now c.type_inv.weights c.type_inv.mu c.type_inv.target in
     let promised = list_promises t a.target.now a.distances.now a.points.now a.radius a.budget doubles (held (sixth c.well_formed).1) in
     let tells = c.stored.ensures ∙ c.list_report.ensures ∙ ap of_counts answered.tells in
     record {

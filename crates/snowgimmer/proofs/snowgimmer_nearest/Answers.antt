@@ -21,7 +21,7 @@ returns c =
     let a = c.args in
     let t = table a.weights.now a.mu.now in
     let answered = c.nearest-answer.ensures in
-    let doubles = doubles_in t a.target.now c.shared_slice_known-1.given c.shared_slice_known-2-1.given c.shared_slice_known-3-1.given in
+    let doubles = doubles_in t a.target.now c.type_inv.weights c.type_inv.mu c.type_inv.target in
     let promises = subst (λ (o : List ℤ). NearestPromises t a.target.now a.out.now a.radius a.budget (C.nearest t a.target.now a.out.now a.radius a.budget) o) (sym answered.writes) (nearest_promises t a.target.now a.out.now a.radius a.budget doubles (held (fifth c.well_formed).1)) in
     let tells = c.stored.ensures ∙ c.nearest_report.ensures _ ∙ ap of_nearest answered.tells in
     record {

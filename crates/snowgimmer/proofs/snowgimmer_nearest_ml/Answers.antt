@@ -17,7 +17,7 @@ returns c =
     let a = c.args in
     let t = table a.weights.now a.mu.now in
     let answered = c.nearest_ml-answer.ensures in
-    let doubles = doubles_in t a.target.now c.shared_slice_known-1.given c.shared_slice_known-2-1.given c.shared_slice_known-3-1.given in
+    let doubles = doubles_in t a.target.now c.type_inv.weights c.type_inv.mu c.type_inv.target in
     let promises = subst (λ (o : List ℤ). MlPromises t a.target.now a.out.now a.budget (C.nearest_ml t a.target.now a.out.now a.budget) o) (sym answered.writes) (ml_promises t a.target.now a.out.now a.budget doubles) in
     let tells = c.stored.ensures ∙ c.nearest_report.ensures _ ∙ ap of_nearest answered.tells in
     record {

@@ -24,7 +24,7 @@ returns c =
     let b = block a.reals.now a.integers.now a.counts.now in
     let t = table a.weights.now a.mu.now in
     let done = c.nearest_named-answer.ensures in
-    let doubles = doubles_in t a.target.now c.shared_slice_known-1.given c.shared_slice_known-2-1.given c.shared_slice_known-3-1.given in
+    let doubles = doubles_in t a.target.now c.type_inv.weights c.type_inv.mu c.type_inv.target in
     let promises = held_in (λ (o : List ℤ) (x : Block). NamedPromises b a.name t a.target.now a.out.now a.radius a.budget (nearest_named b a.name t a.target.now a.out.now a.radius a.budget) o x) done.answered.writes done.block_is (named_promises b a.name t a.target.now a.out.now a.radius a.budget doubles (held (ninth c.well_formed).1)) in
     let tells = c.stored.ensures ∙ c.nearest_report.ensures _ ∙ ap of_nearest done.answered.tells in
     record {

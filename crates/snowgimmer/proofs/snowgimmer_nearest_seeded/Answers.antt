@@ -19,7 +19,7 @@ returns c =
     let a = c.args in
     let t = table a.weights.now a.mu.now in
     let answered = c.nearest_seeded-answer.ensures in
-    let doubles = doubles_in t a.target.now c.shared_slice_known-1.given c.shared_slice_known-2-1.given c.shared_slice_known-3-1.given in
+    let doubles = doubles_in t a.target.now c.type_inv.weights c.type_inv.mu c.type_inv.target in
     let promises = subst (λ (o : List ℤ). SeededPromises t a.target.now a.out.now a.candidate.now a.radius a.budget (C.nearest_seeded t a.target.now a.out.now a.candidate.now a.radius a.budget) o) (sym answered.writes) (seeded_promises t a.target.now a.out.now a.candidate.now a.radius a.budget doubles (held (sixth c.well_formed).1) c.read_integers.ensures) in
     let tells = c.stored.ensures ∙ c.nearest_report.ensures _ ∙ ap of_nearest answered.tells in
     record {

@@ -1,7 +1,7 @@
 //! The crate `kept` by the original and by the specification, for the run tests as Rust.
 
 use super::common;
-use super::enumerate::{NearestAnswer, NearestPoint};
+use super::enumerate::NearestPoint;
 use super::refusals::Refusal;
 use oracle::enumerate::EnumerationScratch;
 use oracle::kept::{COUNTS, Held, INTEGERS, MOST_NODES, NAMES, REALS, part};
@@ -85,9 +85,9 @@ pub fn nearest_named(
     out: &mut [i64],
     radius: f64,
     budget: u64,
-) -> NearestAnswer {
+) -> Result<NearestPoint, Refusal> {
     if let Some(fault) = block_fault(name, [reals.len(), integers.len(), counts.len()]) {
-        return NearestAnswer::Refused(fault);
+        return Err(fault);
     }
     let (weights, mu, target) = (weights.to_vec(), mu.to_vec(), target.to_vec());
     let mut begun = Begun { weights, mu, target, radius, sum: budget, part: Vec::new() };
@@ -104,7 +104,7 @@ pub fn nearest_named(
             BEGUN.with_borrow_mut(|all| all.insert(name, begun));
         }
     }
-    answer.into()
+    answer
 }
 
 pub fn pick_up(
@@ -114,20 +114,20 @@ pub fn pick_up(
     name: u64,
     out: &mut [i64],
     budget: u64,
-) -> NearestAnswer {
+) -> Result<NearestPoint, Refusal> {
     if let Some(fault) = block_fault(name, [reals.len(), integers.len(), counts.len()]) {
-        return NearestAnswer::Refused(fault);
+        return Err(fault);
     }
     let [r, i, c] = part(name);
     let Some(mut held) = Held::read(&reals[r.clone()], &integers[i.clone()], &counts[c.clone()]) else {
-        return NearestAnswer::Refused(Refusal::NameEmpty);
+        return Err(Refusal::NameEmpty);
     };
     if out.len() != held.dimension() {
-        return NearestAnswer::Refused(Refusal::LengthMismatch(held.dimension(), out.len()));
+        return Err(Refusal::LengthMismatch(held.dimension(), out.len()));
     }
     let sum = held.nodes.saturating_add(budget);
     if sum > MOST_NODES {
-        return NearestAnswer::Refused(Refusal::SumRange(sum));
+        return Err(Refusal::SumRange(sum));
     }
     let before = bits(name, reals, integers, counts);
     let begun = BEGUN.with_borrow(|all| all.get(&name).filter(|b| b.part == before).cloned());
@@ -144,12 +144,12 @@ pub fn pick_up(
     }
     let Some(begun) = begun else {
         out.copy_from_slice(&other);
-        return by_walk.into();
+        return by_walk;
     };
     let begun = Begun { sum: begun.sum + budget, part: bits(name, reals, integers, counts), ..begun };
     let answer = nearest(&begun, out);
     assert_same(&answer, &by_walk);
     assert_eq!(out, other, "the points differ");
     BEGUN.with_borrow_mut(|all| all.insert(name, begun));
-    answer.into()
+    answer
 }

@@ -45,20 +45,6 @@ impl NearestPoint {
     }
 }
 
-pub enum NearestAnswer {
-    Found(NearestPoint),
-    Refused(Refusal),
-}
-
-impl From<Result<NearestPoint, Refusal>> for NearestAnswer {
-    fn from(answer: Result<NearestPoint, Refusal>) -> Self {
-        match answer {
-            Ok(point) => Self::Found(point),
-            Err(refusal) => Self::Refused(refusal),
-        }
-    }
-}
-
 /// The radius that 12, 15 and 16 carry: plus zero where the original gives minus zero back. Nothing else is changed so.
 pub fn carried(radius_sq: f64) -> f64 {
     if radius_sq == 0.0 { 0.0 } else { radius_sq }

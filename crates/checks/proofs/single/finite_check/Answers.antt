@@ -1,32 +1,14 @@
--- `checks::finite_check` meets its contract: no coefficient passed has the fault. Assumes nothing.
-use mathlib.Core.Path.{sym, ap, ◌∙◌}
-use mathlib.Core.Bool.{not}
-use native.Mathlib.Omega.{arith}
-use borrow.Author.Count.{below_none, below_more}
+-- `checks::finite_check` meets its contract: `position` finds the first coefficient with the fault. Assumes nothing.
 use borrow.Author.Rules.{rules}
-use lib.ListN.{length, get_or}
-use lib.Ieee.{nan}
-use Rattle.definitions.specs.Checks.{not_finite, finite_check}
 use Rattle.definitions.specs.Refusals.{non_finite}
-use Rattle.definitions.proofs.Verdicts.{first_fault, no_fault}
+use Rattle.definitions.specs.Checks.{not_finite, finite_check}
+use Rattle.checks.proofs.Positions.{refused_at, none_at}
 use Rattle.checks.proofs.single.finite_check.Goals as goal
 
-pub loop-i-init : goal.loop-i-init
-loop-i-init c = (search rules, below_none _)
-
-pub returns-then-not-is_finite : goal.returns-then-not-is_finite
+pub returns-in-Some : goal.returns-in-Some
 unfolding finite_check
-returns-then-not-is_finite c =
-    let xs = c.args.coefficients.now in
-    let loop = c.loop-i in
-    sym (first_fault (λ k. not_finite (get_or xs k nan)) non_finite (length xs) loop.i (search rules) loop.invariant.1 (ap not (sym c.is_finite.ensures ∙ c.if-not-is_finite.true)))
+returns-in-Some c = refused_at not_finite non_finite c.args.coefficients.now c.in-Some.i (search rules) (search rules) (search rules)
 
-pub loop-i-preserved : goal.loop-i-preserved
-loop-i-preserved c = (search rules, below_more _ _ c.loop-i.invariant.1 (ap not (sym c.is_finite.ensures ∙ c.if-not-is_finite.false)))
-
-pub returns : goal.returns
+pub returns-in-None : goal.returns-in-None
 unfolding finite_check
-returns c =
-    let xs = c.args.coefficients.now in
-    let loop = c.loop-i in
-    sym (no_fault (λ k. not_finite (get_or xs k nan)) non_finite (length xs) (λ k below. loop.invariant.1 k (omega arith)))
+returns-in-None c = none_at not_finite non_finite c.args.coefficients.now (search rules)

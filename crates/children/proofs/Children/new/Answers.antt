@@ -9,7 +9,7 @@ use Rattle.rounding.specs.Integers.{round_away}
 use Rattle.definitions.specs.Distance.{term}
 use Rattle.definitions.specs.Zigzag.{open_level, no_children, start}
 use Rattle.definitions.proofs.Zigzags.{start_at, start_is}
-use Rattle.children.specs.declared.Level.TheVariants.{Open}
+use Rattle.std.proofs.Common.{Some}
 use Rattle.children.specs.View.{generator_of, level_of}
 use Rattle.children.proofs.Terms.{term_at}
 use Rattle.children.proofs.Children.new.Goals as goal
@@ -29,7 +29,7 @@ returns-then-term-remaining c =
     let n = t.rounded_away-nearest in
     let a = t.args in
     let m = to_z-of_z w64 n.result.integer (record { sfits = c.struct_told-1.given.0.1 }) ∙ n.ensures.integer in
-    ap (λ (z : ℤ). Open (generator_of (start_at a.center a.remaining a.weight z))) m
+    ap (λ (z : ℤ). Some (generator_of (start_at a.center a.remaining a.weight z))) m
     ∙ ap level_of (sym (decided t true c.if-term-remaining.true))
 
 pub returns : goal.returns

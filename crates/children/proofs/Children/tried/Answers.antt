@@ -22,7 +22,7 @@ returns c =
     let self = c.args.self in
     let s = c.args.step in
     let up = c.args.positive in
-    let r = c.in-Passed.t in
-    let p = sym c.in-Passed.is ∙ c.tested.ensures in
+    let r = c.in-Some.t in
+    let p = sym c.in-Some.is ∙ c.tested.ensures in
     answer self (s + 1) self.positive_done self.negative_done (passed_of (zigzag self) (moved (at_step self s self.positive_done self.negative_done) up) r p).1 (nearest_is c.struct_told-1.given) c.requires.emitted
     ∙ ap child_of (sym (first_finds self s up c.requires.direction c.requires.not_done r p))

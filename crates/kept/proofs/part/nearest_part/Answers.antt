@@ -1,8 +1,7 @@
 -- `nearest_part` meets its contract: the walk begins, runs for its budget, and is over or is written. Assumes nothing.
 use mathlib.Core.Path.{◌≡◌, refl, ap, ◌∙◌}
 use mathlib.Core.List.{List, ◌++◌}
-use native.Mathlib.Omega.{arith}
-use lib.ListN.{length, take, drop, length-append, length-drop}
+use lib.ListN.{length, take, drop}
 use lib.Seq.{take_at}
 use lib.Ieee.{Float}
 use Rattle.definitions.specs.Table.{table}
@@ -14,21 +13,10 @@ use Rattle.kept.proofs.Naming.{over, goes_on, front_as}
 use Rattle.kept.proofs.part.nearest_part.Goals as goal
 use Rattle.kept.proofs.part.nearest_part.Goals.{After-write_table}
 
-pub run_to-s-requires : goal.run_to-s-requires
-run_to-s-requires c = record { ready = c.begun-first.ensures.ready _ refl; budget_bounded = c.requires.shape.bounded }
-
-pub end_of-requires : goal.end_of-requires
-end_of-requires c =
-    let shape = c.requires.shape.shape in
-    record { best_length = c.run_to-s.ensures.ready.sound.best_length; small = omega (arith, shape.output_length, shape.shape.small) }
-
 pub returns-then-s-eq0 : goal.returns-then-s-eq0
 returns-then-s-eq0 c =
     let a = c.args in
     over (block a.reals.now a.integers.now a.counts.now) a.weights.now a.mu.now a.target.now a.out.now a.radius a.budget c.begun-first.result c.run_to-s.result _ c.begun-first.ensures c.run_to-s.ensures c.requires.shape.shape.output_length c.if-s-eq0.true c.end_of.ensures
-
-pub write_table-requires : goal.write_table-requires
-write_table-requires c = record { shape = c.requires.shape.shape.shape; reals_length = c.requires.lengths.reals_length }
 
 -- the doubles once the table is written
 module _ (w : After-write_table) where
@@ -41,25 +29,8 @@ module _ (w : After-write_table) where
       let shape = w.requires.shape.shape.shape in
       table_length (table a.weights.now a.mu.now) a.target.now a.radius shape.small shape.square shape.target_length
 
-  written_length : (reals : List Float) → reals ≡ front ++ drop 576 w.args.reals.now → length reals ≡ 646
-  written_length reals e = omega (arith, ap length e, length-append front (drop 576 w.args.reals.now), front_length, length-drop 576 w.args.reals.now, w.requires.lengths.reals_length)
-
   front_there : (reals : List Float) → reals ≡ front ++ drop 576 w.args.reals.now → take 576 reals ≡ front
   front_there reals e = ap (take 576) e ∙ take_at front (drop 576 w.args.reals.now) 576 front_length
-
-pub write_walk-requires : goal.write_walk-requires
-write_walk-requires c =
-    let w = (goal.at.write_walk-requires c).After-write_table in
-    let sound = c.run_to-s.ensures.ready.sound in
-    record {
-      lengths = record { reals_length = written_length w _ c.write_table.ensures; integers_length = c.requires.lengths.integers_length; counts_length = c.requires.lengths.counts_length };
-      small = c.requires.shape.shape.shape.small;
-      point_length = sound.point_length;
-      best_length = sound.best_length;
-      levels_length = sound.levels_length;
-      some = omega (arith, c.if-s-eq0.false);
-      falling = sound.falling;
-    }
 
 pub returns : goal.returns
 returns c =

@@ -40,22 +40,13 @@ pub returns-then-budget-nodes : goal.returns-then-budget-nodes
 returns-then-budget-nodes c =
     let a = c.args in
     let e = (goal.at.returns-then-budget-nodes c).Else-not-is_sound in
-    too_much (block a.reals.now a.integers.now a.counts.now) c.requires a.out.now a.budget (sound e) c.if-out-n.false (omega (arith, c.if-budget-nodes.true, (passed e).few_nodes)) _ c.sum_told.ensures
-
-pub overflow_add-nodes : goal.overflow_add-nodes
-overflow_add-nodes c =
-    let at = goal.at.overflow_add-nodes c in
-    omega (arith, bounded at.Else-budget-nodes (passed at.Else-not-is_sound))
+    too_much (block a.reals.now a.integers.now a.counts.now) c.requires a.out.now a.budget (sound e) c.if-out-n.false (omega (arith, c.if-budget-nodes.true, (passed e).few_nodes)) _ c.saturating_add.ensures
 
 pub gone_on-s-requires : goal.gone_on-s-requires
 gone_on-s-requires c =
     let at = goal.at.gone_on-s-requires c in
     let e = at.Else-not-is_sound in
     record { lengths = c.requires; sound = sound e; bounded = bounded at.Else-budget-nodes (passed e) }
-
-pub end_of-requires : goal.end_of-requires
-end_of-requires c =
-    record { best_length = c.gone_on-s.ensures.sound.best_length; small = omega (arith, c.if-out-n.false, (passed (goal.at.end_of-requires c).Else-not-is_sound).small) }
 
 pub returns-then-s-eq0 : goal.returns-then-s-eq0
 returns-then-s-eq0 c =

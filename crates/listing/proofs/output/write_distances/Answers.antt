@@ -1,10 +1,9 @@
 -- `write_distances`: the places passed hold the distances in the order. Assumes nothing.
-use mathlib.Core.Path.{refl, ap, sym, ◌∙◌}
+use mathlib.Core.Path.{ap, sym, ◌∙◌}
 use mathlib.Core.List.{List, map}
 use Prim.Native.Nat.{ℕ}
 use native.Mathlib.Omega.{arith}
 use lib.ListN.{length, get_or, set, take, length-set}
-use lib.Seq.{take_all}
 use lib.Ieee.{Float, nan}
 use borrow.Author.Rules.{rules, scaled_Fits}
 use Rattle.definitions.specs.Calls.{written}
@@ -12,9 +11,6 @@ use Rattle.lists.proofs.Each.{at_place}
 use Rattle.lists.proofs.Segments.{mapped_more, mapped_length}
 use Rattle.listing.proofs.Writing.{written_more}
 use Rattle.listing.proofs.output.write_distances.Goals as goal
-
-pub loop-i-init : goal.loop-i-init
-loop-i-init c = (omega arith, refl, refl)
 
 pub offset_bounds-found-place : goal.offset_bounds-found-place
 offset_bounds-found-place c =
@@ -35,8 +31,3 @@ loop-i-preserved c =
           ∙ written_more (map f (take i a.order.now)) a.distances.now i y (mapped_length f a.order.now i c.loop-i.invariant.0) (omega arith)
           ∙ ap (λ (ds : List Float). written ds a.distances.now) (sym (mapped_more f a.order.now i 0 (omega arith))),
     )
-
-pub returns : goal.returns
-returns c =
-    let a = c.args in
-    c.loop-i.invariant.2 ∙ ap (λ (is : List ℕ). written (map (λ (j : ℕ). get_or a.found.now j nan) is) a.distances.now) (take_all c.loop-i.i a.order.now (omega arith))

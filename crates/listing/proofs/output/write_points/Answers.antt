@@ -3,7 +3,7 @@ use mathlib.Core.Path.{◌≡◌, refl, ap, sym, ◌∙◌}
 use mathlib.Core.List.{List, [], map}
 use Prim.Native.Nat.{ℕ, ◌+◌, ◌*◌, ◌≤◌}
 use native.Mathlib.Omega.{arith}
-use lib.ListN.{length, get_or, take, length-take, length-drop}
+use lib.ListN.{length, get_or, take}
 use lib.Seq.{take_all, length-take-le}
 use lib.IntN.{ℤ}
 use Rattle.definitions.specs.Listing.{ListPoint}
@@ -43,26 +43,11 @@ overflow_mul-from c = omega (arith, place_within (goal.at.overflow_mul-from c).I
 pub overflow_add-from_end : goal.overflow_add-from_end
 overflow_add-from_end c = omega (arith, place_within (goal.at.overflow_add-from_end c).In-loop-i)
 
-pub overflow_mul-to : goal.overflow_mul-to
-overflow_mul-to c = omega (arith, row_in (goal.at.overflow_mul-to c).In-loop-i)
-
-pub overflow_add-to_end : goal.overflow_add-to_end
-overflow_add-to_end c = omega (arith, row_in (goal.at.overflow_add-to_end c).In-loop-i)
-
 pub offset_bounds-found-from : goal.offset_bounds-found-from
 offset_bounds-found-from c = omega (arith, place_within (goal.at.offset_bounds-found-from c).In-loop-i)
 
-pub slice_bounds-copy_i64-end : goal.slice_bounds-copy_i64-end
-slice_bounds-copy_i64-end c = omega (arith, place_within (goal.at.slice_bounds-copy_i64-end c).In-loop-i)
-
-pub offset_bounds-points-to : goal.offset_bounds-points-to
-offset_bounds-points-to c = omega (arith, row_in (goal.at.offset_bounds-points-to c).In-loop-i)
-
-pub slice_bounds-copy_i64-end-in-loop-i : goal.slice_bounds-copy_i64-end-in-loop-i
-slice_bounds-copy_i64-end-in-loop-i c = omega (arith, row_in (goal.at.slice_bounds-copy_i64-end-in-loop-i c).In-loop-i)
-
-pub copy_i64-requires : goal.copy_i64-requires
-copy_i64-requires c = let h = place_within (goal.at.copy_i64-requires c).In-loop-i in simp (length-take, length-drop) (omega arith)
+pub slice_bounds-copy_from_slice-end-in-loop-i : goal.slice_bounds-copy_from_slice-end-in-loop-i
+slice_bounds-copy_from_slice-end-in-loop-i c = omega (arith, place_within (goal.at.slice_bounds-copy_from_slice-end-in-loop-i c).In-loop-i)
 
 pub loop-i-preserved : goal.loop-i-preserved
 loop-i-preserved c =
@@ -76,7 +61,7 @@ loop-i-preserved c =
     coordinates_count a.n a.found.now [] (length a.order.now) c.requires.found_length (all_take i c.requires.below)
     ∙ ap (λ (k : ℕ). k * a.n) (length-take-le i a.order.now c.loop-i.invariant.0)
     in
-    let copied = row_copied c.loop-i.points a.found.now (i * a.n) (place * a.n) a.n c.copy_i64.new.to (row_in at) (place_within at) c.copy_i64.ensures in (
+    let copied = row_copied c.loop-i.points a.found.now (i * a.n) (place * a.n) a.n c.copy_from_slice.new.self (row_in at) (place_within at) c.copy_from_slice.ensures.after in (
       omega arith,
       ap (λ (ps : List ℤ). length ps) copied.0 ∙ copied.1 ∙ c.loop-i.invariant.1,
       copied.0

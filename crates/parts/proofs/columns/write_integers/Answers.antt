@@ -1,8 +1,6 @@
 -- `write_integers`: the levels passed stand in the columns. Assumes nothing.
-use mathlib.Core.Path.{refl, ap, sym, ◌∙◌}
+use mathlib.Core.Path.{refl, ap, ◌∙◌}
 use mathlib.Core.List.{List}
-use native.Mathlib.Omega.{arith}
-use lib.ListN.{length-set}
 use lib.IntN.{ℤ}
 use mir.Syntax.{w64}
 use mir.ValLaws.{to_z-of_z}
@@ -12,7 +10,7 @@ use Rattle.parts.proofs.columns.write_integers.Goals as goal
 
 pub loop-i-init : goal.loop-i-init
 loop-i-init c =
-    integers_begin c.args.integers.now c.clear_i64.new.to _ c.requires.to_length refl c.clear_i64.ensures c.args.s
+    integers_begin c.args.integers.now c.fill.new.self _ c.requires.to_length refl (c.fill.ensures.after (λ y h. h)) c.args.s
 
 pub loop-i-preserved : goal.loop-i-preserved
 loop-i-preserved c =
@@ -20,13 +18,7 @@ loop-i-preserved c =
     (to_z-of_z w64 _ (record { sfits = c.struct_told-1.given.1.1.1.1.0.1 }))
     (to_z-of_z w64 _ (record { sfits = c.struct_told-in-loop-i-1.given.1.1.1.1.1.1.0.1 }))
 
-pub shape_of-integers : goal.shape_of-integers
-shape_of-integers c = c.loop-i.invariant.same_length ∙ sym c.requires.to_length
-
 pub returns : goal.returns
 returns c =
     stored_all c.loop-i.invariant c.loop-i-test.false
-    ∙ ap (λ (front : List ℤ). integers_behind front (open_levels c.args.s)) (integers_front c.args.integers.now c.clear_i64.new.to _ c.requires.to_length refl c.clear_i64.ensures)
-
-pub bounds-integers-i-in-loop-i : goal.bounds-integers-i-in-loop-i
-bounds-integers-i-in-loop-i c = simp length-set (omega arith)
+    ∙ ap (λ (front : List ℤ). integers_behind front (open_levels c.args.s)) (integers_front c.args.integers.now c.fill.new.self _ c.requires.to_length refl (c.fill.ensures.after (λ y h. h)))

@@ -1,5 +1,4 @@
 -- `write_reals`: the levels passed stand in the columns. Assumes nothing.
-use Prim.Native.Nat.{◌-◌}
 use lib.ListN.{take}
 use Rattle.parts.specs.Levels.{reals_behind}
 use Rattle.parts.proofs.Stored.{Stored}
@@ -7,6 +6,3 @@ use Rattle.parts.proofs.columns.write_reals.Given as goal
 
 abbrev pub invariant-loop-i : goal.invariant-loop-i
 invariant-loop-i l = Stored reals_behind 577 646 (take 577 l.initial.reals) l.s l.reals l.i
-
-abbrev pub decreases-loop-i : goal.decreases-loop-i
-decreases-loop-i l = l.s.count - l.i

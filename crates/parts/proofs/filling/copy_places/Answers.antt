@@ -7,4 +7,4 @@ use Rattle.parts.proofs.filling.copy_places.Goals as goal
 pub returns : goal.returns
 returns c =
     let a = c.args in
-    places_copied (pos 0) (length a.to.now) a.low a.end a.from.now c.clear_i64.new.to c.copy_i64.new.to c.clear_i64.ensures c.requires.order c.requires.long c.requires.room c.copy_i64.ensures
+    places_copied (pos 0) (length a.to.now) a.low a.end a.from.now c.fill.new.self c.copy.new.to (c.fill.ensures.after (λ y h. h)) c.requires.order c.requires.long c.requires.room c.copy.ensures

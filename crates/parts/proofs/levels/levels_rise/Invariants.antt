@@ -1,11 +1,6 @@
 -- `levels_rise`: what is left of the test is the whole of it. Assumes nothing.
-use Prim.Native.Nat.{◌-◌}
-use Rattle.definitions.specs.Block.{part_open}
 use Rattle.parts.proofs.Rising.{Rising}
 use Rattle.parts.proofs.levels.levels_rise.Given as goal
 
 abbrev pub invariant-loop-i : goal.invariant-loop-i
 invariant-loop-i l = Rising l.counts l.low l.i
-
-abbrev pub decreases-loop-i : goal.decreases-loop-i
-decreases-loop-i l = part_open l.counts - l.i

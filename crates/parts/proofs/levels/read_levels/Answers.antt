@@ -1,8 +1,6 @@
 -- `read_levels`: the levels passed are those of the part, from the highest down. Assumes nothing.
-use mathlib.Core.Path.{refl}
 use Prim.Native.Nat.{ℕ, ◌≤◌, ◌-◌}
 use native.Mathlib.Omega.{arith}
-use borrow.Author.Count.{below_none}
 use Rattle.lists.proofs.Filling.{filled_next}
 use Rattle.definitions.specs.Table.{largest_dimension}
 use Rattle.definitions.specs.Block.{part_open}
@@ -25,19 +23,10 @@ levels l j =
     let a = l.args in
     level_in (block a.reals.now a.integers.now a.counts.now) (part_open a.counts.now - 1 - j)
 
-pub read_level-lowest-requires : goal.read_level-lowest-requires
-read_level-lowest-requires c = record { lengths = c.requires.lengths; below = omega arith }
-
-pub loop-i-init : goal.loop-i-init
-loop-i-init c = record { bounded = omega arith; same_length = refl; done = below_none _ }
-
 pub read_level-requires : goal.read_level-requires
 read_level-requires c =
     let b = (goal.at.read_level-requires c).At-loop-i in
     record { lengths = b.requires.lengths; below = omega (arith, few b) }
-
-pub offset_bounds-levels-i : goal.offset_bounds-levels-i
-offset_bounds-levels-i c = record { fits = omega (arith, few (goal.at.offset_bounds-levels-i c).At-loop-i, c.loop-i-test.true) }
 
 pub bounds-levels-i : goal.bounds-levels-i
 bounds-levels-i c = omega (arith, few (goal.at.bounds-levels-i c).At-loop-i, c.loop-i-test.true)
@@ -46,7 +35,3 @@ pub loop-i-preserved : goal.loop-i-preserved
 loop-i-preserved c =
     let l = (goal.at.loop-i-preserved c).At-loop-i in
     filled_next (levels l) no_level l.loop-i.invariant (omega (arith, few l, c.loop-i-test.true)) c.read_level.ensures
-
-pub returns : goal.returns
-returns c =
-    record { levels_length = c.loop-i.invariant.same_length; each = λ i h. c.loop-i.invariant.done i (omega (arith, c.loop-i-test.false)) }

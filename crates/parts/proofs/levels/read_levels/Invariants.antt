@@ -10,6 +10,3 @@ use Rattle.parts.proofs.levels.read_levels.Given as goal
 
 abbrev pub invariant-loop-i : goal.invariant-loop-i
 invariant-loop-i l = Filled (λ (j : ℕ). level_in (block l.reals l.integers l.counts) (part_open l.counts - 1 - j)) no_level largest_dimension l.levels l.i
-
-abbrev pub decreases-loop-i : goal.decreases-loop-i
-decreases-loop-i l = part_open l.counts - l.i

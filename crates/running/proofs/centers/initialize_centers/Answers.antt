@@ -8,7 +8,7 @@ use Rattle.running.proofs.centers.initialize_centers.Goals.{At-loop-j, In-loop-j
 
 pub loop-j-init : goal.loop-j-init
 loop-j-init c =
-    begun_none c.args.mu.now c.args.target.now c.args.centers.now _ c.requires.centers_length c.copy_f64.ensures
+    begun_none c.args.mu.now c.args.target.now c.args.centers.now _ c.requires.centers_length c.copy.ensures
 
 -- the row lies in the table
 inside : (m : In-loop-j) → m.loop-j.j * length m.args.target.now + m.loop-j.j ≤ length m.args.mu.now

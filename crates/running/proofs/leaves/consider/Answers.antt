@@ -8,11 +8,11 @@ use lib.IntN.{ℤ}
 use lib.ListN.{length}
 use Rattle.search.specs.declared.RecursiveSearch.{RecursiveSearch}
 use Rattle.search.specs.View.{with_best}
-use Rattle.search.proofs.NearestLeaf.{better, replaced, stayed, first, nearer, tied, farther}
+use Rattle.search.proofs.NearestLeaf.{better, replaced, stayed}
 use Rattle.running.specs.declared.Standing.{Standing}
 use Rattle.running.specs.Call.{search_of, ConsideredBy}
 use Rattle.running.proofs.leaves.consider.Goals as goal
-use Rattle.running.proofs.leaves.consider.Goals.{Else-found-eq0, Start}
+use Rattle.running.proofs.leaves.consider.Goals.{Start}
 
 -- the search at the start, and what is left of it
 abbrev given : Start → RecursiveSearch
@@ -31,39 +31,8 @@ takes b best r e found h is = record {
 leaves : (b : Start) → better b.args.n (given b) b.args.distance b.args.found.now ≡ false → Ends b b.args.best.now b.args.s b.args.found.now
 leaves b is = record { considered = stayed b.args.n (given b) b.args.distance b.args.found.now is; best_length = b.requires.best_length }
 
--- the start, and that there is a best
-abbrev start : Else-found-eq0 → Start
-start m = m.before.before
+pub returns-then-not-replaces : goal.returns-then-not-replaces
+returns-then-not-replaces c = leaves (goal.at.returns-then-not-replaces c).Start (sym c.replaces.ensures ∙ c.if-not-replaces.true)
 
-some : (m : Else-found-eq0) → 0 < (start m).args.found.now
-some m = omega (arith, m.if-found-eq0.false)
-
-pub returns-then-found-eq0 : goal.returns-then-found-eq0
-returns-then-found-eq0 c =
-    let b = (goal.at.returns-then-found-eq0 c).Start in
-    takes b _ c.taken.result c.taken.ensures 1 (omega arith) (first b.args.n (given b) b.args.distance b.args.found.now c.if-found-eq0.true)
-
-pub returns-then-distance-s : goal.returns-then-distance-s
-returns-then-distance-s c =
-    let m = (goal.at.returns-then-distance-s c).Else-found-eq0 in
-    let b = start m in
-    takes b _ c.taken-then-distance-s.result c.taken-then-distance-s.ensures b.args.found.now (some m) (nearer b.args.n (given b) b.args.distance b.args.found.now (some m) c.if-distance-s.true)
-
-pub returns-then-before : goal.returns-then-before
-returns-then-before c =
-    let m = (goal.at.returns-then-before c).Else-found-eq0 in
-    let b = start m in
-    takes b _ c.taken-then-before.result c.taken-then-before.ensures b.args.found.now (some m)
-    (tied b.args.n (given b) b.args.distance b.args.found.now (some m) c.if-distance-s.false true c.if-distance-s-2.true (sym c.before-then-distance-s-2.ensures ∙ c.if-before.true))
-
-pub returns-else-before : goal.returns-else-before
-returns-else-before c =
-    let m = (goal.at.returns-else-before c).Else-found-eq0 in
-    let b = start m in
-    leaves b (tied b.args.n (given b) b.args.distance b.args.found.now (some m) c.if-distance-s.false false c.if-distance-s-2.true (sym c.before-then-distance-s-2.ensures ∙ c.if-before.false))
-
-pub returns-else-distance-s-2 : goal.returns-else-distance-s-2
-returns-else-distance-s-2 c =
-    let m = (goal.at.returns-else-distance-s-2 c).Else-found-eq0 in
-    let b = start m in
-    leaves b (farther b.args.n (given b) b.args.distance b.args.found.now (some m) c.if-distance-s.false c.if-distance-s-2.false)
+pub returns : goal.returns
+returns c = takes (goal.at.returns c).Start _ c.taken.result c.taken.ensures 1 (omega arith) (sym c.replaces.ensures ∙ c.if-not-replaces.false)

@@ -5,8 +5,7 @@ use native.Mathlib.Omega.{arith}
 use lib.Dec.{T, lt→ltb}
 use lib.ListN.{length, get_or}
 use lib.IntN.{ℤ, pos}
-use borrow.Author.Count.{below_none, below_more}
-use borrow.Author.Rules.{rules}
+use borrow.Author.Count.{below_more}
 use Rattle.rounding.specs.Integers.{is_i64}
 use Rattle.definitions.specs.Admitted.{all_i64}
 use Rattle.definitions.proofs.Admissions.{all_i64_nil, all_i64_intro}
@@ -17,13 +16,8 @@ all_integers : (zs : List ℤ) → ((k : ℕ) → k < length zs → T (is_i64 (g
 all_integers [] h = all_i64_nil
 all_integers (z ∷ zs) h = all_i64_intro z zs (h 0 (omega arith)) (all_integers zs (λ k b. h (suc k) (omega arith)))
 
-pub loop-i-preserved : goal.loop-i-preserved
-loop-i-preserved c = (search rules, below_more _ _ c.loop-i.invariant.1 (lt→ltb _ _ c.value-1.given))
-
 pub returns : goal.returns
-returns c =
-    let l = c.loop-i in
-    all_integers _ (λ k b. l.invariant.1 k (omega arith))
+returns c = all_integers _ (λ k b. c.loop-value.invariant k (omega arith))
 
-pub loop-i-init : goal.loop-i-init
-loop-i-init c = (search rules, below_none _)
+pub loop-value-preserved : goal.loop-value-preserved
+loop-value-preserved c = below_more _ _ c.loop-value.invariant (lt→ltb _ _ (omega arith))

@@ -14,28 +14,27 @@ use Rattle.snowgimmer.proofs.report.distance_report.Goals.{In_default}
 checked : (c : In_default) →
     let a = c.args in
     first_refusal (search_checks largest_dimension (table a.weights.now a.mu.now) a.target.now a.point.now) ≡ pass
-checked c = sym c.search_check-checked.ensures ∙ ap verdict c.in_default.is
+checked c = sym c.search_check.ensures ∙ ap verdict c.in_default.is
 
-pub returns-in-Refuse : goal.returns-in-Refuse
-returns-in-Refuse c =
+pub returns-in-Err : goal.returns-in-Err
+returns-in-Err c =
     let a = c.args in
-    let e = c.in-Refuse.e in
-    c.refusal_report.ensures
-    ∙ sym (ap of_distance (distance_refused (table a.weights.now a.mu.now) a.target.now a.point.now (numbered e) (sym c.search_check-checked.ensures ∙ ap verdict c.in-Refuse.is)))
+    c.from.ensures
+    ∙ sym (ap of_distance (distance_refused (table a.weights.now a.mu.now) a.target.now a.point.now (numbered c.in-Err.e) (sym c.in-Err.ensures)))
 
 pub triangular_distance-requires : goal.triangular_distance-requires
 triangular_distance-requires c =
     let a = c.args in
     (search_passed largest_dimension (table a.weights.now a.mu.now) a.target.now a.point.now (checked c)).shape
 
-pub returns-in-Finite : goal.returns-in-Finite
-returns-in-Finite c =
+pub returns-in-Ok : goal.returns-in-Ok
+returns-in-Ok c =
     let a = c.args in
     c.told.ensures
-    ∙ sym (ap of_distance (distance_found (table a.weights.now a.mu.now) a.target.now a.point.now (checked (goal.at.returns-in-Finite c).In_default) _ (sym c.triangular_distance.ensures ∙ c.in-Finite.is)))
+    ∙ sym (ap of_distance (distance_found (table a.weights.now a.mu.now) a.target.now a.point.now (checked (goal.at.returns-in-Ok c).In_default) _ (sym c.triangular_distance.ensures ∙ c.in-Ok.is)))
 
-pub returns-in-Overflow : goal.returns-in-Overflow
-returns-in-Overflow c =
+pub returns-in-Err-triangular_distance : goal.returns-in-Err-triangular_distance
+returns-in-Err-triangular_distance c =
     let a = c.args in
-    c.refusal_report-in-Overflow.ensures
-    ∙ sym (ap of_distance (distance_overflowed (table a.weights.now a.mu.now) a.target.now a.point.now (checked (goal.at.returns-in-Overflow c).In_default) _ (sym c.triangular_distance.ensures ∙ c.in-Overflow.is)))
+    c.from-in-Err-triangular_distance.ensures
+    ∙ sym (ap of_distance (distance_overflowed (table a.weights.now a.mu.now) a.target.now a.point.now (checked (goal.at.returns-in-Err-triangular_distance c).In_default) _ (sym c.triangular_distance.ensures ∙ c.in-Err-triangular_distance.is)))

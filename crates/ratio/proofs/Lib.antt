@@ -1,2 +1,0 @@
--- Laws that the proof cites.
-pub mod Verdicts
