@@ -12,7 +12,7 @@ import library
 CRATES = library.REPOSITORY / "crates"
 HIDDEN = re.compile(r'//[^\n]*|^\s*(?:ghost use|requires|ensures)\b[^\n]*|"(?:\\.|[^"\\\n])*"', re.M)
 INNER = re.compile(r"[(\[{][^()\[\]{}]*[)\]}]")
-OUTSIDE = ("std", "io", "libc", "f64", "i64", "u64", "usize", "u32", "u8")  # their functions are those of no crate
+OUTSIDE = ("std", "io", "libc", "f64", "i128", "i64", "u64", "usize", "u32", "u8")  # their functions are those of no crate
 
 Source = collections.namedtuple("Source", "file module code imports")
 Function = collections.namedtuple("Function", "path source exported parameters start end loops")

@@ -1,6 +1,7 @@
 // The computed distance of an integer vector from a target. The residuals target[j] - z[j], as doubles, are kept
 // beside the coordinates, so that a centre converts nothing. Every function here is an inner one: its callers have
-// checked the table, the target and the lengths.
+// checked the table, the target and the lengths. The table, here as everywhere, is lent as the two slices that C lends and the
+// specification names, and not as a struct.
 #![tactic(auto)]
 
 ghost use Rattle.std.specs.Prelude.{◌≡◌, ◌+◌};

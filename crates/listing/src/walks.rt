@@ -129,6 +129,7 @@ pub fn walk_in_place(
     requires { InPlaceReady weights.now mu.now target.now distances.old points.old radius budget }
     ensures { InPlace (list_search (table_at weights mu) (at_entry target) radius budget) distances.new points.new }
 {
+    // the walk that counted the points came to its end, and this one is the same
     let _ = search_walk(weights, mu, target, distances, points, radius, budget);
     sort_rows(distances, points, weights.len());
 }

@@ -13,7 +13,7 @@ use resume::Walk;
 fn flag_of(b: bool) -> u64
     ensures { result ≡ flag b }
 {
-    if b { 1 } else { 0 }
+    u64::from(b)
 }
 
 // The doubles of a walk, behind table, target and radius.

@@ -1,4 +1,5 @@
-// Where a part has what: docs/SPECIFICATION.md, "The block". Each column has a place for each of 23 levels.
+// Where a part has what: docs/SPECIFICATION.md, "The block". Each column has a place for each of 23 levels. Columns, and not
+// structs: C lends the block as three slices, and may keep it in a file.
 
 // Doubles: behind table, target and radius.
 pub const STANDING: usize = 576;

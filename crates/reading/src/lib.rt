@@ -25,7 +25,8 @@ pub struct Section {
     pub end: usize,
 }
 
-// The number in `size` bytes from an offset on, little-endian.
+// The number in `size` bytes from an offset on, little-endian. Four bytes and eight are read by one loop, where
+// `from_le_bytes` would need an array of each size.
 fn number_at(input: &[u8], offset: usize, size: usize) -> u64
     requires { NumberWithin input.now offset size }
     ensures { NumberIs (at_entry input) offset size result }

@@ -195,7 +195,8 @@ pub fn residuals_of(
 // under trial.
 //
 // A turn takes the child that waits at the lowest open level. The stores have no branch, and the struct stays in the
-// loop: to pass it to a function at each node would cost more than the rest of the node.
+// loop: to pass it to a function at each node would cost more than the rest of the node. Its condition is the walk's own
+// count of nodes, so it is a `while`.
 pub fn run_to(
     mu: &[f64],
     weights: &[f64],

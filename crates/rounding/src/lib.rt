@@ -24,7 +24,8 @@ fn rounded(x: f64) -> u64
 }
 
 // The nearest integer; of two equally near ones that with the larger magnitude. What is too large for an i64, plus
-// infinity too, gives i64::MAX; what is too small, minus infinity too, i64::MIN; a NaN and either zero give 0.
+// infinity too, gives i64::MAX; what is too small, minus infinity too, i64::MIN; a NaN and either zero give 0. It is worked
+// out here, as the customer asks in place of a cast that saturates.
 pub fn round_away(v: f64) -> i64
     ensures { result ≡ round_away v }
 {

@@ -23,7 +23,8 @@ pub struct Standing {
 }
 
 // The walk with `depth` levels left, as `search::run`: an entry of `centers` is its level's centre for the coordinates that
-// `point` holds. A level reads its own only when it is entered, and neither array is set back when the walk goes up.
+// `point` holds. A level reads its own only when it is entered, and neither array is set back when the walk goes up. `listing`
+// is a flag as there.
 fn run(
     mu: &[f64],
     weights: &[f64],

@@ -137,7 +137,8 @@ fn enter(
 // `exhausted` whether the budget ran out.
 //
 // Both are lent: the struct is the call's result, and what it holds is copied at each call. `listing` is a flag, as the
-// walk is proved once for both leaves, over what they keep together (specs/Kept.antt).
+// walk is proved once for both leaves, over what they keep together (specs/Kept.antt); as a const parameter it doesn't prove
+// yet: the check refuses what it generates itself of a recursion that has one and is lent slices.
 //
 // A child is followed when the next one is known: the walk below the last child is the call's result, without a copy of
 // the struct on the way back.

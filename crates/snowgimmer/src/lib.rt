@@ -1,7 +1,7 @@
 // The library's calls for C and Rust. Each answers 0 or a refusal's number (the last one also another number that it is
 // handed), and writes its report through first, second and real: what a success tells, or what the refusal carries. A
 // refusal leaves every lent slice as it was, but for the block of kept searches: 15 keeps a search in it, and 16 of a pickup
-// empties a name.
+// empties a name. Names, parameters, numbers and the three values of a report are the C interface's.
 #![tactic(auto)]
 
 ghost use Rattle.std.specs.Prelude.{◌≡◌};

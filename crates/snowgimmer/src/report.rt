@@ -68,7 +68,7 @@ pub fn list_report(answer: Result<ListFound, Refusal>) -> Report
     }
 }
 
-// A verdict on a list as a number.
+// A verdict on a list as a number: the C interface's.
 fn ratio_number(ratio: Ratio) -> u64
     ensures { result ≡ R.ratio_number (verdict_of ratio) }
 {
@@ -100,7 +100,8 @@ pub fn verdict_report(v: Result<(), Refusal>) -> Report
     }
 }
 
-// The report of a point's computed distance: 2 to 7, the point in the output's place, then 11.
+// The report of a point's computed distance: 2 to 7, the point in the output's place, then 11. It gives a report and no
+// Result, so there is nothing for a `?` to hand up.
 pub fn distance_report(weights: &[f64], mu: &[f64], target: &[f64], point: &[i64]) -> Report
     ensures { result ≡ R.of_distance (point_distance (table_at weights mu) (at_entry target) (at_entry point)) }
 {

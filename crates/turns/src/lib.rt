@@ -122,6 +122,7 @@ pub fn turn(
 ) -> TurnAnswer
     ensures { TurnAnswered (block reals.old integers.old counts.old) last.old out.old slice result out.new (block reals.new integers.new counts.new) last.new }
 {
+    // a turn tells a name beside its answer, so it gives a struct, and no `?` hands a refusal up
     if let Err(e) = slice_check(reals, integers, counts, slice) {
         return refused(e);
     }
