@@ -30,7 +30,8 @@ use triangle::triangle_check;
 // 2^-52.
 const EPSILON: f64 = 2.220446049250313e-16;
 
-// 2 to 5, for at most `largest` weights. The entries are looked at once their number is known.
+// 2 to 5, for at most `largest` weights. The entries are looked at once their number is known. `largest` is one of two
+// constants, so each caller proves the bound on it at once, and a type for it would be no plainer.
 #[tactic(auto, using(definitions::proofs::Verdicts::first_append), unfolding(definitions::specs::Checks::first_refusal, definitions::specs::Checks::table_checks))]
 pub fn table_check(largest: usize, weights: &[f64], mu: &[f64]) -> Result<(), Refusal>
     requires { largest ≤ 64 }

@@ -161,6 +161,7 @@ fn list_part(text: &mut Text<OUTPUT_SIZE>, job: &Job)
     let size = n * n;
     let places = job.settings.places as usize;
     let coordinates = n * places;
+    // arrays of these sizes, as the customer asks
     let mut points = [0i64; 5888];
     let mut distances = [0.0; 256];
     let answer = list(

@@ -141,6 +141,7 @@ fn list_within(
 // `list` once its checks have passed, with arrays for so many places and coordinates: the shorter they are, the less there is
 // to clear. It is not inlined: so the arrays of each size lie in a frame of their own, and a caller that lends few places does
 // not need the stack of the long ones.
+// Arrays, as nothing here is on a heap; distances and points are two slices, as C lends them.
 #[inline(never)]
 fn list_with<const PLACES: usize, const COORDINATES: usize>(
     weights: &[f64],

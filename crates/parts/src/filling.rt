@@ -7,6 +7,8 @@ ghost use Rattle.parts.specs.Levels.{coordinates, PlacesReady};
 
 use lists::copy;
 
+// Two calls of the library each, as functions since their clauses have the block's words.
+
 // Copies a slice, with zeros in the places behind it.
 pub fn copy_padded(from: &[f64], to: &mut [f64])
     requires { length from.now ≤ length to.old }

@@ -1,5 +1,4 @@
 -- Laws that the proofs of the functions, and callers, cite.
-pub mod Orders
 pub mod NearestLeaf
 pub mod ListLeaf
 pub mod Turns

@@ -1,6 +1,6 @@
 -- `before` compares as `lexicographic` does. Assumes nothing.
 use Rattle.std.proofs.Common.{◌≡◌, ◌∙◌, take, length, arith, length-take-le}
-use Rattle.search.proofs.Orders.{less_is}
+use Rattle.sorting.proofs.Orders.{less_is}
 use Rattle.search.proofs.before.Goals as goal
 
 pub returns : goal.returns
