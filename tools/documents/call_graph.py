@@ -1,6 +1,6 @@
 """The calls of the crates' code, read from its text: which function calls which, where, and in how many loops.
 
-The test programs are left out. A function's path is its crate, its module and its name; a method's has no type in it.
+The test programs are left out. A function's path is its crate, its module and its name; a method's has its type before the name.
 """
 
 import collections
@@ -11,7 +11,14 @@ import library
 
 CRATES = library.REPOSITORY / "crates"
 HIDDEN = re.compile(r'//[^\n]*|^\s*(?:ghost use|requires|ensures)\b[^\n]*|"(?:\\.|[^"\\\n])*"', re.M)
+METHOD = re.compile(r"\b[A-Z]\w*::\w+$")
 INNER = re.compile(r"[(\[{][^()\[\]{}]*[)\]}]")
+# a block of methods, and the type that has them
+METHODS = r"^impl\b[^{;]*?\b([A-Z]\w*)(?:<[^{]*>)?\s*{"
+# a call's name may have constants or types behind it, as in `list_with::<PLACES, COORDINATES>(`
+CALLED = r"(\.?)\b((?:\w+::)*)(\w+)(?:::<[^()]*?>)?\("
+# a method that is handed a closure may call it again and again, so it counts as a loop
+LOOP = r"\b(?:while|for|loop)\b[^{]*{|\.\w+\((?=\s*(?:[^()|]*,\s*)?(?:move\s+)?\|)"
 OUTSIDE = ("std", "io", "libc", "f64", "i128", "i64", "u64", "usize", "u32", "u8")  # their functions are those of no crate
 
 Source = collections.namedtuple("Source", "file module code imports")
@@ -49,12 +56,14 @@ def read_source(file):
 
 
 def read_functions(source):
+    types = [(found.start(), end, found[1] + "::") for found, end in blocks(re.compile(METHODS, re.M), source.code)]
     for found, end in blocks(r"(\bextern +)?\bfn (\w+)[^(]*\(", source.code):
         _, last = next(blocks("{", source.code, end))
-        repeated = blocks(r"\b(?:while|for|loop)\b[^{]*{", source.code, end, last)
+        repeated = blocks(LOOP, source.code, end, last)
         loops = [(loop.start(), close) for loop, close in repeated]
         parameters = re.findall(r"(\w+)\s*:(?!:)", source.code[found.end():end])
-        yield Function(source.module + found[2], source, bool(found[1]), parameters, end, last, loops)
+        of = next((name for first, close, name in types if first < found.start() < close), "")
+        yield Function(source.module + of + found[2], source, bool(found[1]), parameters, end, last, loops)
 
 
 class Graph:
@@ -71,7 +80,7 @@ class Graph:
 
     def calls_of(self, function):
         source = function.source
-        for found, end in blocks(r"(\.?)\b((?:\w+::)*)(\w+)\(", source.code, function.start, function.end):
+        for found, end in blocks(CALLED, source.code, function.start, function.end):
             where = f"{source.file}:{source.code[:found.start()].count(chr(10)) + 1}"
             arguments = source.code[found.end():end]
             while INNER.search(arguments):
@@ -84,8 +93,13 @@ class Graph:
         named = [path for path in self.functions if path.endswith(f"::{name}")]
         first, colons, rest = (prefix + name).partition("::")
         paths = [prefix + name, source.imports.get(first, first) + colons + rest]
-        paths = [re.sub(r"\b[A-Z]\w*::", "", start + path) for path in paths for start in (source.module, "")]
-        found = named if dot else [path for path in paths if path in named][:1]
+        paths = [start + path for path in paths for start in (source.module, "")]
+        methods = [path for path in named if METHOD.search(path)]
+        found = methods if dot else [path for path in paths if path in named][:1]
+        if dot:
+            named = methods
+        elif METHOD.search(prefix + name):  # of a type, which may be one of std's
+            named = found
         if len(found) > 1:  # a method: that of a crate which the file names
             own = [source.module, *source.imports.values()]
             found = [path for path in found if path.split("::")[0] in {use.split("::")[0] for use in own}]
@@ -97,6 +111,13 @@ class Graph:
         """The functions from which calls lead to one of the goals, and these."""
         found = set(goals)
         while more := {call.caller for call in self.calls if call.callee in found} - found:
+            found |= more
+        return found
+
+    def reached(self, *starts):
+        """The functions to which calls lead from one of these, and these."""
+        found = set(starts)
+        while more := {call.callee for call in self.calls if call.caller in found and call.callee} - found:
             found |= more
         return found
 

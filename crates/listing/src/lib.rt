@@ -18,10 +18,14 @@ use output::write_first;
 use refusals::Refusal;
 use walks::{search_walk, walk_in_place};
 
-// The places of a short list, as many as the job has, and its coordinates at n = 23.
+// The places of a short list, as many as the job has, and its coordinates at n = 23, at n = 32 and at n = 64.
 const SHORT_LIST: usize = 256;
 
 const SHORT_LIST_POINTS: usize = SHORT_LIST * LARGEST_DIMENSION;
+
+const BROAD_LIST_POINTS: usize = SHORT_LIST * 32;
+
+const WIDE_LIST_POINTS: usize = SHORT_LIST * LARGEST_SEARCHED;
 
 // The coordinates of a list of the middle size: all places at n = 8.
 const MIDDLE_LIST_POINTS: usize = LARGEST_LIST * 8;
@@ -183,7 +187,7 @@ fn list_with<const PLACES: usize, const COORDINATES: usize>(
 //
 // Refused: 2 to 9, the table and the call; 14, too many places or points that don't match them (the distances' length);
 // 15, the budget ran out (nodes, the radius); 18, more points than places (points). A refusal leaves both slices as
-// they were. The call needs at most 1 MB of stack, and 0.15 MB where the short arrays do.
+// they were. The call needs at most 1 MB of stack, with at most 256 places 0.25 MB, and 0.15 MB where the shortest arrays do.
 pub fn list(
     weights: &[f64],
     mu: &[f64],
@@ -207,6 +211,16 @@ pub fn list(
     )?;
     if distances.len() <= SHORT_LIST && points.len() <= SHORT_LIST_POINTS {
         return list_with::<SHORT_LIST, SHORT_LIST_POINTS>(
+            weights, mu, target, distances, points, radius, budget,
+        );
+    }
+    if distances.len() <= SHORT_LIST && points.len() <= BROAD_LIST_POINTS {
+        return list_with::<SHORT_LIST, BROAD_LIST_POINTS>(
+            weights, mu, target, distances, points, radius, budget,
+        );
+    }
+    if distances.len() <= SHORT_LIST {
+        return list_with::<SHORT_LIST, WIDE_LIST_POINTS>(
             weights, mu, target, distances, points, radius, budget,
         );
     }

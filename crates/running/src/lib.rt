@@ -67,13 +67,16 @@ fn run(
         let sum = partial + child.term;
         update_centers(mu, weights, point, centers, level, child.z, child.value);
         let following = zigzag.next();
-        if sum <= s.radius {
-            let Some((trial, after)) = following else {
+        let Some((trial, after)) = following else {
+            if sum <= s.radius {
                 return run(
                     mu, weights, point, best, centers, distances, points, found, exhausted,
                     listing, budget, level, sum, s,
                 );
-            };
+            }
+            return s;
+        };
+        if sum <= s.radius {
             s = run(
                 mu, weights, point, best, centers, distances, points, found, exhausted, listing,
                 budget, level, sum, s,
@@ -85,9 +88,6 @@ fn run(
             zigzag = after;
             continue;
         }
-        let Some((trial, after)) = following else {
-            return s;
-        };
         child = trial;
         zigzag = after;
     }

@@ -50,6 +50,14 @@ returns-in_err-list_check c =
 pub list_with-requires-clause-fits : goal.list_with-requires-clause-fits
 list_with-requires-clause-fits c = fits (goal.at.list_with-requires-clause-fits c).In_ok-list_check 256 c.if-distances-le-SHORT_LIST.true
 
+pub list_with-requires-then-points-le-BROAD_LIST_POINTS-clause-fits : goal.list_with-requires-then-points-le-BROAD_LIST_POINTS-clause-fits
+list_with-requires-then-points-le-BROAD_LIST_POINTS-clause-fits c =
+    fits (goal.at.list_with-requires-then-points-le-BROAD_LIST_POINTS-clause-fits c).In_ok-list_check 256 c.if-distances-le-SHORT_LIST-2.true
+
+pub list_with-requires-then-distances-le-SHORT_LIST-3-clause-fits : goal.list_with-requires-then-distances-le-SHORT_LIST-3-clause-fits
+list_with-requires-then-distances-le-SHORT_LIST-3-clause-fits c =
+    fits (goal.at.list_with-requires-then-distances-le-SHORT_LIST-3-clause-fits c).In_ok-list_check 256 c.if-distances-le-SHORT_LIST-3.true
+
 pub list_with-requires-then-points-le-MIDDLE_LIST_POINTS-clause-fits : goal.list_with-requires-then-points-le-MIDDLE_LIST_POINTS-clause-fits
 list_with-requires-then-points-le-MIDDLE_LIST_POINTS-clause-fits c =
     let h = (goal.at.list_with-requires-then-points-le-MIDDLE_LIST_POINTS-clause-fits c).In_ok-list_check in

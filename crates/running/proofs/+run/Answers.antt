@@ -111,9 +111,9 @@ run-requires t c =
     let fewer : c.args.depth - 1 < t = omega (arith, c.decreases, c.if-depth-eq0.false) in
     (fewer, ready_below (child t k))
 
-pub returns-in_default-following : goal.returns-in_default-following
-returns-in_default-following t c =
-    let k = (goal.at.returns-in_default-following t c).After-next-following in
+pub returns-then-sum-s : goal.returns-then-sum-s
+returns-then-sum-s t c =
+    let k = (goal.at.returns-then-sum-s t c).After-next-following in
     let v = c.run in
     let m : Below (call_at t k) = record {
       child = child t k;
@@ -135,31 +135,31 @@ returns-then-exhausted t c =
     let v = c.run-s in
     let m : Below (call_at t k) = record {
       child = child t k;
-      passes = c.if-sum-s.true;
+      passes = c.if-sum-s-2.true;
       result = state (carried c.args.listing (search_of v.new.point v.new.best v.result) v.new.found v.new.exhausted) v.new.centers v.new.distances v.new.points;
       returned = v.ensures;
     } in
     record { seen_as = exhausted_below m c.if-exhausted.true; preserved = preserved_below m }
 
-pub loop-s-preserved-then-sum-s : goal.loop-s-preserved-then-sum-s
-loop-s-preserved-then-sum-s t c =
-    let k = (goal.at.loop-s-preserved-then-sum-s t c).After-next-following in
+pub loop-s-preserved-then-sum-s-2 : goal.loop-s-preserved-then-sum-s-2
+loop-s-preserved-then-sum-s-2 t c =
+    let k = (goal.at.loop-s-preserved-then-sum-s-2 t c).After-next-following in
     let v = c.run-s in
     let m : Below (call_at t k) = record {
       child = child t k;
-      passes = c.if-sum-s.true;
+      passes = c.if-sum-s-2.true;
       result = state (carried c.args.listing (search_of v.new.point v.new.best v.result) v.new.found v.new.exhausted) v.new.centers v.new.distances v.new.points;
       returned = v.ensures;
     } in
     record { generator = (child t k).tried.after; loop = loop_continues m c.if-exhausted.false; gives = sym c.in-Some-following.is ∙ c.next-following.ensures }
 
-pub returns-in_default-following-2 : goal.returns-in_default-following-2
-returns-in_default-following-2 t c =
-    let k = (goal.at.returns-in_default-following-2 t c).After-next-following in
+pub returns-in_default-following : goal.returns-in_default-following
+returns-in_default-following t c =
+    let k = (goal.at.returns-in_default-following t c).After-next-following in
     let loop = child_pruned (child t k) c.if-sum-s.false in
-    record { seen_as = children_end (record { at = (child t k).tried.turn.at; now = _; generator = _; loop = loop }) (sym c.in_default-following-2.is ∙ c.next-following.ensures); preserved = loop.preserved }
+    record { seen_as = children_end (record { at = (child t k).tried.turn.at; now = _; generator = _; loop = loop }) (sym c.in_default-following.is ∙ c.next-following.ensures); preserved = loop.preserved }
 
 pub loop-s-preserved : goal.loop-s-preserved
 loop-s-preserved t c =
     let k = (goal.at.loop-s-preserved t c).After-next-following in
-    record { generator = (child t k).tried.after; loop = child_pruned (child t k) c.if-sum-s.false; gives = sym c.in-Some-following-2.is ∙ c.next-following.ensures }
+    record { generator = (child t k).tried.after; loop = child_pruned (child t k) c.if-sum-s-2.false; gives = sym c.in-Some-following.is ∙ c.next-following.ensures }
