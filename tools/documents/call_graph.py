@@ -17,8 +17,8 @@ INNER = re.compile(r"[(\[{][^()\[\]{}]*[)\]}]")
 METHODS = r"^impl\b[^{;]*?\b([A-Z]\w*)(?:<[^{]*>)?\s*{"
 # a call's name may have constants or types behind it, as in `list_with::<PLACES, COORDINATES>(`
 CALLED = r"(\.?)\b((?:\w+::)*)(\w+)(?:::<[^()]*?>)?\("
-# a method that is handed a closure may call it again and again, so it counts as a loop
-LOOP = r"\b(?:while|for|loop)\b[^{]*{|\.\w+\((?=\s*(?:[^()|]*,\s*)?(?:move\s+)?\|)"
+# what is handed a closure may call it again and again, so it counts as a loop
+LOOP = r"\b(?:while|for|loop)\b[^{]*{|\b\w+(?:::<[^()]*?>)?\((?=\s*(?:[^()|]*,\s*)?(?:move\s+)?\|)"
 OUTSIDE = ("std", "io", "libc", "f64", "i128", "i64", "u64", "usize", "u32", "u8")  # their functions are those of no crate
 
 Source = collections.namedtuple("Source", "file module code imports")
@@ -95,11 +95,10 @@ class Graph:
         paths = [prefix + name, source.imports.get(first, first) + colons + rest]
         paths = [start + path for path in paths for start in (source.module, "")]
         methods = [path for path in named if METHOD.search(path)]
-        found = methods if dot else [path for path in paths if path in named][:1]
-        if dot:
-            named = methods
-        elif METHOD.search(prefix + name):  # of a type, which may be one of std's
-            named = found
+        if dot:  # where the crates have no such method, std's may do what a function of that name does
+            named = found = methods or named
+        else:
+            found = [path for path in paths if path in named][:1]
         if len(found) > 1:  # a method: that of a crate which the file names
             own = [source.module, *source.imports.values()]
             found = [path for path in found if path.split("::")[0] in {use.split("::")[0] for use in own}]
